@@ -32,6 +32,7 @@ chain() {
   prove links 1 m2_links_go_on &
   prove chain '' m2_script
   prove weave 2 m2_promise m2_exact &
+  prove chain '' m2_node
   prove chain '' m2_run
   prove chain '' m2_cli
 }

@@ -23,11 +23,11 @@ use Rattle.m2_fabric.specs.Fabric.{SeenFabric}
 use Rattle.m2_promise.specs.Posted.{IsPromised}
 use Rattle.m2_promise.specs.PostLaws.{EndsArePromised}
 use Rattle.m2_run.specs.Joined.{PostsOfTypes}
-use Rattle.m2_run.specs.Nodes.{KeptNow, RunNodeNow, as_one, nodes_of}
-use Rattle.m2_run.specs.Handing.{AreHeardAtEnd, heard_in_order}
+use Rattle.m2_run.specs.m2_node.Nodes.{KeptNow, RunNodeNow, as_one, nodes_of}
+use Rattle.m2_run.specs.m2_node.Handing.{AreHeardAtEnd, heard_in_order}
 use Rattle.m2_run.specs.Rests.{loose_of}
-use Rattle.m2_run.specs.Way.{IsNodeOf}
-use Rattle.m2_run.proofs.Places.{get_of_map, get_too}
+use Rattle.m2_run.specs.m2_node.Way.{IsNodeOf}
+use Rattle.m2_run.proofs.m2_node.Places.{get_of_map, get_too}
 use Rattle.m2_cli.proofs.ThreadEnds.{RunsJoined, are_at_end}
 use Rattle.m2_cli.proofs.ThreadLogs.{Alike, all_alike, node_alike, report_alike}
 use Rattle.m2_cli.specs.Threads.{IsThreadRun, IsThreadsPrintout, ThreadsReadTo, limit_of, names_in, status_by_left, threads_in}

@@ -22,8 +22,8 @@ use Rattle.m2_promise.specs.AtEnd.{AreAtEnd, AreFacing, IsLinkInOrder, IsNodeAtE
 use Rattle.m2_run.proofs.JoinedSides.{IsOfNode, all_of_node}
 use Rattle.m2_run.specs.Joined.{IsJoinedBy}
 use Rattle.m2_run.specs.Kept.{IsKeptNode}
-use Rattle.m2_run.specs.Nodes.{KeptNow, as_one, nodes_of, records_in}
-use Rattle.m2_run.specs.Planned.{plan_in}
+use Rattle.m2_run.specs.m2_node.Nodes.{KeptNow, as_one, nodes_of, records_in}
+use Rattle.m2_run.specs.m2_node.Planned.{plan_in}
 use Rattle.m2_run.specs.Ran.{HasRan}
 use Rattle.m2_run.specs.Rests.{EndedCenterNow, EndedNow, IsEndOf, IsEndOfCenter, loose_of}
 use Rattle.m2_run.specs.Types.{IsCenterOfTypes}

@@ -16,13 +16,13 @@ use Rattle.m2_scenario.specs.m2_dispatch.Heard.{Heard, heard_by, heard_of, is_me
 use Rattle.m2_scenario.specs.m2_dispatch.declared.logged.Logged.{Logged}
 use Rattle.m2_exact.specs.m2_script.m2_center.Center.{CenterNow}
 use Rattle.m2_exact.specs.m2_script.m2_record.RecordNow.{RecordNow}
-use Rattle.m2_run.specs.Handing.{AreHeardAtEnd, handed_by, heard_at_once, heard_in_order}
-use Rattle.m2_run.specs.Homes.{home_at}
-use Rattle.m2_run.specs.Lists.{SideBySide, joined}
-use Rattle.m2_run.specs.Nodes.{RunNodeNow, queued_in}
-use Rattle.m2_run.specs.Way.{IsNodeOf}
+use Rattle.m2_run.specs.m2_node.Handing.{AreHeardAtEnd, handed_by, heard_at_once, heard_in_order}
+use Rattle.m2_run.specs.m2_node.Homes.{home_at}
+use Rattle.m2_run.specs.m2_node.Lists.{SideBySide, joined}
+use Rattle.m2_run.specs.m2_node.Nodes.{RunNodeNow, queued_in}
+use Rattle.m2_run.specs.m2_node.Way.{IsNodeOf}
 use Rattle.m2_run.specs.m2_links_go_on.OfPeers.{IsPeerOf}
-use Rattle.m2_run.proofs.Merging.{AreHomed, homed_alike}
+use Rattle.m2_run.proofs.m2_node.Merging.{AreHomed, homed_alike}
 use Rattle.m2_cli.proofs.ThreadNodes.{at_home}
 
 abbrev Center : Type 0

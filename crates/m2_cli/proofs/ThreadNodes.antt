@@ -12,10 +12,10 @@ use Rattle.m2_fabric.proofs.m2_lemmas.Lists.{all_append, all_by_places, all_map,
 use Rattle.m2_promise.proofs.Lists.{flat_one, image_of}
 use Rattle.m2_promise.proofs.m2_links_go_on.m2_growth.Among.{each_by, mapped_one, of_each}
 use Rattle.m2_promise.specs.AtEnd.{AreCentersOf, HaveTheSame, Named, named}
-use Rattle.m2_run.specs.Homes.{home_at, home_of_node, is_at_home}
-use Rattle.m2_run.specs.Nodes.{RunNodeNow, as_one, records_in}
-use Rattle.m2_run.specs.Planned.{side_in, sides_in}
-use Rattle.m2_run.specs.Way.{IsNodeOf}
+use Rattle.m2_run.specs.m2_node.Homes.{home_at, home_of_node, is_at_home}
+use Rattle.m2_run.specs.m2_node.Nodes.{RunNodeNow, as_one, records_in}
+use Rattle.m2_run.specs.m2_node.Planned.{side_in, sides_in}
+use Rattle.m2_run.specs.m2_node.Way.{IsNodeOf}
 use Rattle.m2_run.specs.m2_links_go_on.LogLaws.{logging_in}
 use Rattle.m2_run.specs.m2_links_go_on.Logged.{AreOfTheirPeers, IsLogged, LoggingNow}
 use Rattle.m2_run.specs.m2_links_go_on.Made.{NodeMade, SideMade, side_made}

@@ -5,7 +5,7 @@ use Rattle.m2_scenario.specs.m2_dispatch.declared.logged.Logged.{Logged}
 use Rattle.m2_scenario.specs.m2_dispatch.Heard.{heard_by}
 use Rattle.m2_fabric.specs.Fabric.{SeenFabric}
 use Rattle.m2_run.specs.Kept.{ended_as_one}
-use Rattle.m2_run.specs.Nodes.{KeptNow, nodes_of}
+use Rattle.m2_run.specs.m2_node.Nodes.{KeptNow, nodes_of}
 use Rattle.m2_run.specs.Ran.{HasRan}
 use Rattle.m2_run.specs.Rests.{loose_of}
 use Rattle.m2_run.specs.declared.outcome.Outcome.{Outcome}

@@ -8,8 +8,8 @@ use Rattle.std.proofs.lemmas.List.Concat.{flat_map-append}
 use Rattle.std.proofs.lemmas.List.Sums.{sum_by-append, sum_by-cons}
 use Rattle.std.proofs.lemmas.Option.{none-some, same_Some, slice_get_within}
 use Rattle.m2_bytes.proofs.m2_lemmas.Lists.{all_last}
-use Rattle.m2_script.specs.m2_center.Center.{CenterNow}
-use Rattle.m2_script.specs.m2_center.Finishing.{RestNow, rest_of}
+use Rattle.m2_node.specs.m2_script.m2_center.Center.{CenterNow}
+use Rattle.m2_node.specs.m2_script.m2_center.Finishing.{RestNow, rest_of}
 use Rattle.m2_dispatch.specs.declared.logged.Logged.{Logged}
 use Rattle.m2_fabric.specs.Port.{SeenPort}
 use Rattle.m2_fabric.specs.declared.port.Cut.{Cut}
@@ -26,11 +26,11 @@ use Rattle.m2_trail.specs.Arrivals.{LooseNow}
 use Rattle.m2_trail.specs.declared.home.HomeOf.{HomeOf}
 use Rattle.m2_run.specs.Cuts.{bound_of}
 use Rattle.m2_run.specs.Kept.{AreOpened, IsOpenedAs}
-use Rattle.m2_run.specs.Lists.{SideBySide, joined}
+use Rattle.m2_node.specs.Lists.{SideBySide, joined}
 use Rattle.m2_run.specs.Opened.{AreRightsTo, EndsCenter, EndsCenters, IsTakenApart, LeftNow, OpenedNow, PartsNow, WeighsUp, made_in, parts_in, weight_beside, weight_inside, weight_put_by, weight_taken}
 use Rattle.m2_run.specs.Rests.{EndedCenterNow, IsEndOfCenter, IsInside}
-use Rattle.m2_run.proofs.Beside.{joined_both, joined_one, side_both, side_last}
-use Rattle.m2_run.proofs.Places.{below_or_at, get_before, get_behind}
+use Rattle.m2_node.proofs.Beside.{joined_both, joined_one, side_both, side_last}
+use Rattle.m2_node.proofs.Places.{below_or_at, get_before, get_behind}
 
 abbrev pub Put : Type 0
 Put = PutPass OnItsWay HomeOf

@@ -16,10 +16,10 @@ use Rattle.m2_handover.proofs.Weights.{left_weigh}
 use Rattle.m2_trail.specs.Arrivals.{LooseNow}
 use Rattle.m2_trail.specs.declared.home.HomeOf.{HomeOf}
 use Rattle.m2_run.specs.Closing.{AreAllRightsTo, AreLeftOver, HasAllRights, IsLeftOver}
-use Rattle.m2_run.specs.Lists.{SideBySide}
+use Rattle.m2_node.specs.Lists.{SideBySide}
 use Rattle.m2_run.specs.Opened.{AreRightsTo, HasRoomsFor, IsClosed, OpenedNow, WeighsUp, made_in, weight_inside, weight_put_by, weight_taken}
-use Rattle.m2_run.proofs.Beside.{side_last}
-use Rattle.m2_run.proofs.Places.{get_drop, reverse_last}
+use Rattle.m2_node.proofs.Beside.{side_last}
+use Rattle.m2_node.proofs.Places.{get_drop, reverse_last}
 
 -- ---- all rights
 

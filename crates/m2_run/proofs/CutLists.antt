@@ -6,9 +6,9 @@ use Rattle.m2_bytes.specs.Items.{Holding}
 use Rattle.m2_fabric.specs.declared.port.Cut.{Cut}
 use Rattle.m2_scenario.specs.declared.line.Line.{Line}
 use Rattle.m2_scenario.specs.declared.node.Node.{Node}
-use Rattle.m2_script.specs.Nodes.{cuts_of}
+use Rattle.m2_node.specs.m2_script.Nodes.{cuts_of}
 use Rattle.m2_run.specs.Cuts.{cuts_at, items_of}
-use Rattle.m2_run.proofs.Places.{below_or_at, get_before, get_behind}
+use Rattle.m2_node.proofs.Places.{below_or_at, get_before, get_behind}
 
 -- those of one node more
 pub more_cuts : (nodes : List Node) (lines : List Line) (k : ℕ) (all new : List (Holding Cut)) (c : Holding Cut) → length all ≡ k → new ≡ all ++ c ∷ [] → c.items ≡ cuts_of nodes lines k →

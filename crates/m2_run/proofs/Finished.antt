@@ -7,27 +7,27 @@ use Rattle.std.proofs.lemmas.List.{length-map, map-append}
 use Rattle.std.proofs.lemmas.Option.{none-some, same_Some}
 use Rattle.m2_bytes.specs.Items.{Holding}
 use Rattle.m2_bytes.proofs.m2_lemmas.Lists.{all_at, all_back, all_front, all_map, get_map}
-use Rattle.m2_script.specs.m2_center.Center.{CenterNow}
+use Rattle.m2_node.specs.m2_script.m2_center.Center.{CenterNow}
 use Rattle.m2_dispatch.specs.declared.logged.Logged.{Logged}
 use Rattle.m2_fabric.specs.Fabric.{Gathered, SeenFabric}
 use Rattle.m2_fabric.specs.declared.port.Cut.{Cut}
 use Rattle.m2_fabric.specs.declared.socket.SocketId.{SocketId}
-use Rattle.m2_links_go_on.specs.Left.{IsSeen}
-use Rattle.m2_links_go_on.specs.m2_history.Link.{IsWholeHalf}
+use Rattle.m2_node.specs.m2_links_go_on.Left.{IsSeen}
+use Rattle.m2_node.specs.m2_links_go_on.m2_history.Link.{IsWholeHalf}
 use Rattle.m2_scenario.specs.declared.node.Node.{Node}
 use Rattle.m2_trail.specs.Arrivals.{LooseNow}
 use Rattle.m2_run.specs.Cuts.{cuts_at}
 use Rattle.m2_run.specs.Gathering.{ArePortsTold}
 use Rattle.m2_run.specs.Kept.{AllGathered, AreAllHeld, AreOpened, MadeIsHeld}
-use Rattle.m2_run.specs.Nodes.{KeptNow, RunNodeNow, loose_at, made_by, nodes_of}
+use Rattle.m2_node.specs.Nodes.{KeptNow, RunNodeNow, loose_at, made_by, nodes_of}
 use Rattle.m2_run.specs.Opened.{AllAreThere, AreOpenedNodes, IsOpenedNode, OpenedNow, all_kept, ended_of, kept_as, loose_in, made_in, made_of_all, untold}
 use Rattle.m2_run.specs.Ran.{AreLeftBy}
 use Rattle.m2_run.specs.Rests.{AreEndsOf, EndedCenterNow, IsEndOf, IsEndOfCenter, loose_of}
 use Rattle.m2_run.specs.Still.{AllRest, IsAtRest}
 use Rattle.m2_run.specs.Types.{IsCenterOfTypes, IsOfTypes}
-use Rattle.m2_run.proofs.Beside.{side_flat, side_get, side_length}
+use Rattle.m2_node.proofs.Beside.{side_flat, side_get, side_length}
 use Rattle.m2_run.proofs.Held.{node_holds_all, opened_untold}
-use Rattle.m2_run.proofs.Places.{get_of_map, get_too, joined_first}
+use Rattle.m2_node.proofs.Places.{get_of_map, get_too, joined_first}
 
 -- ---- by places
 

@@ -12,16 +12,16 @@ use Rattle.m2_fabric.specs.Port.{SeenPort}
 use Rattle.m2_fabric.specs.declared.port.Cut.{Cut}
 use Rattle.m2_fabric.specs.declared.socket.SocketId.{SocketId}
 use Rattle.m2_handover.specs.End.{told_nothing}
-use Rattle.m2_record.specs.RecordNow.{RecordNow}
+use Rattle.m2_node.specs.m2_script.m2_record.RecordNow.{RecordNow}
 use Rattle.m2_trail.specs.Arrivals.{LooseNow}
 use Rattle.m2_run.specs.Cuts.{AreEndsOver, IsEndOver, bound_of}
-use Rattle.m2_run.specs.Ends.{RunEndNow, seen_end}
+use Rattle.m2_node.specs.Ends.{RunEndNow, seen_end}
 use Rattle.m2_run.specs.Gathering.{GathersIf, GivenNow, Gives, GivesBack, Opens, OpensHalves}
 use Rattle.m2_run.specs.Kept.{ends_of_record}
-use Rattle.m2_run.specs.Lists.{joined}
+use Rattle.m2_node.specs.Lists.{joined}
 use Rattle.m2_run.specs.Rests.{EndedCenterNow, EndedNow}
-use Rattle.m2_run.proofs.Beside.{joined_one, next_turned, side_both}
-use Rattle.m2_run.proofs.Places.{reverse_last}
+use Rattle.m2_node.proofs.Beside.{joined_one, next_turned, side_both}
+use Rattle.m2_node.proofs.Places.{reverse_last}
 
 -- an end over one that was handed over and on which all was done again is over the one inside
 pub over_inner : (bound : Option ℕ) (e mid inner : SeenEnd) → IsEndOver bound e mid → mid ≡ told_nothing inner → IsEndOver bound e inner

@@ -5,8 +5,8 @@ use Rattle.std.specs.Option.{option_to_list}
 use Rattle.std.proofs.lemmas.List.{map-append}
 use Rattle.std.proofs.lemmas.List.Concat.{flat_map-append}
 use Rattle.std.proofs.lemmas.List.Sums.{sum_by-append, sum_by-cons}
-use Rattle.m2_script.specs.m2_center.Center.{CenterNow}
-use Rattle.m2_script.specs.m2_center.Finishing.{rest_of}
+use Rattle.m2_node.specs.m2_script.m2_center.Center.{CenterNow}
+use Rattle.m2_node.specs.m2_script.m2_center.Finishing.{rest_of}
 use Rattle.m2_dispatch.specs.declared.logged.Logged.{Logged}
 use Rattle.m2_fabric.specs.End.{SeenEnd}
 use Rattle.m2_fabric.specs.Fabric.{Gathered}
@@ -18,8 +18,8 @@ use Rattle.m2_handover.specs.End.{told_nothing}
 use Rattle.m2_trail.specs.Arrivals.{LooseNow}
 use Rattle.m2_run.specs.Cuts.{AreEndsOver, bound_of}
 use Rattle.m2_run.specs.Kept.{AreAllHeld, AreEndsGiven, AreOpened, IsOpenedAs, MadeIsHeld, ends_of_records}
-use Rattle.m2_run.specs.Lists.{SideBySide, joined}
-use Rattle.m2_run.specs.Nodes.{RunNodeNow, loose_at}
+use Rattle.m2_node.specs.Lists.{SideBySide, joined}
+use Rattle.m2_node.specs.Nodes.{RunNodeNow, loose_at}
 use Rattle.m2_run.specs.Opened.{AllAreThere, OpenedNow, kept_as, made_in, untold, weight_inside}
 use Rattle.m2_run.specs.Rests.{EndedCenterNow, IsEndOfCenter}
 use Rattle.m2_run.proofs.Weighing.{weight_of_map}

@@ -7,7 +7,7 @@ use Rattle.std.proofs.lemmas.List.{append-nil, drop_at, take_at}
 use Rattle.std.proofs.lemmas.Simd.{map-map}
 use Rattle.std.proofs.lemmas.Option.{same_Some, slice_get-get_or, slice_get_within}
 use Rattle.m2_bytes.specs.Items.{Holding}
-use Rattle.m2_script.specs.m2_center.Center.{CenterNow}
+use Rattle.m2_node.specs.m2_script.m2_center.Center.{CenterNow}
 use Rattle.m2_dispatch.specs.Heard.{Heard, heard_by}
 use Rattle.m2_dispatch.specs.declared.logged.Logged.{Logged}
 use Rattle.m2_edge.specs.Faults.{next_count}
@@ -15,21 +15,21 @@ use Rattle.m2_fabric.specs.End.{SeenEnd}
 use Rattle.m2_fabric.specs.Fabric.{Gathered, SeenFabric}
 use Rattle.m2_fabric.specs.Port.{SeenPort}
 use Rattle.m2_fabric.specs.declared.port.Cut.{Cut}
-use Rattle.m2_record.specs.RecordNow.{RecordNow}
+use Rattle.m2_node.specs.m2_script.m2_record.RecordNow.{RecordNow}
 use Rattle.m2_scenario.specs.Report.{heard_in}
 use Rattle.m2_scenario.specs.declared.node.Node.{Node}
 use Rattle.m2_trail.specs.Arrivals.{LooseNow}
 use Rattle.m2_run.specs.Cuts.{AreEndsOver, cuts_at}
 use Rattle.m2_run.specs.Gathering.{ArePortsTold, GathersIf, GivesBack}
 use Rattle.m2_run.specs.Kept.{AllGathered, IsGathered, IsUntouched, ends_of_record, ends_of_records}
-use Rattle.m2_run.specs.Lists.{SideBySide}
-use Rattle.m2_run.specs.Nodes.{KeptNow, loose_at, nodes_of}
-use Rattle.m2_run.specs.Ports.{IsPortOver}
-use Rattle.m2_run.specs.Handing.{heard_at_once}
+use Rattle.m2_node.specs.Lists.{SideBySide}
+use Rattle.m2_node.specs.Nodes.{KeptNow, loose_at, nodes_of}
+use Rattle.m2_node.specs.Ports.{IsPortOver}
+use Rattle.m2_node.specs.Handing.{heard_at_once}
 use Rattle.m2_run.specs.Rests.{AreEndsOf, EndedCenterNow, EndedNow, IsEndOf, IsEndOfCenter, IsInside, loose_of}
-use Rattle.m2_run.specs.Way.{ArePortsOut}
-use Rattle.m2_run.proofs.Beside.{side_flat, side_of_each, side_over}
-use Rattle.m2_run.proofs.Places.{Last, get_behind, joined_last, last_of, reverse_last, same_maps}
+use Rattle.m2_node.specs.Way.{ArePortsOut}
+use Rattle.m2_node.proofs.Beside.{side_flat, side_of_each, side_over}
+use Rattle.m2_node.proofs.Places.{Last, get_behind, joined_last, last_of, reverse_last, same_maps}
 
 -- ---- what the fabric tells
 

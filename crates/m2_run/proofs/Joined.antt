@@ -5,41 +5,41 @@ use Rattle.std.specs.Prelude.{length, slice_get}
 use Rattle.std.specs.List.{AllByRecursion}
 use Rattle.std.proofs.lemmas.Option.{get_or_from_slice_get, same_Some, slice_get_within}
 use Rattle.m2_bytes.proofs.m2_lemmas.Lists.{all_at, all_so_of}
-use Rattle.m2_links_go_on.proofs.CourseEnding.{centers_run_their_course}
-use Rattle.m2_links_go_on.proofs.m2_history.WovenSides.{steps_named}
-use Rattle.m2_links_go_on.specs.CourseEnded.{HasRunItsCourse, ends_left}
-use Rattle.m2_links_go_on.specs.Made.{NodeMade}
+use Rattle.m2_node.proofs.m2_links_go_on.CourseEnding.{centers_run_their_course}
+use Rattle.m2_node.proofs.m2_links_go_on.m2_history.WovenSides.{steps_named}
+use Rattle.m2_node.specs.m2_links_go_on.CourseEnded.{HasRunItsCourse, ends_left}
+use Rattle.m2_node.specs.m2_links_go_on.Made.{NodeMade}
 use Rattle.m2_dispatch.specs.declared.logged.Logged.{Logged}
 use Rattle.m2_fabric.specs.Fabric.{SeenFabric}
 use Rattle.m2_fabric.specs.declared.socket.SocketId.{SocketId}
-use Rattle.m2_links_go_on.proofs.m2_growth.Among.{of_each}
-use Rattle.m2_links_go_on.proofs.m2_growth.Records.{askers_are}
-use Rattle.m2_links_go_on.specs.m2_growth.Halves.{IsOneOf}
-use Rattle.m2_links_go_on.proofs.m2_history.Whole.{records_are_sides}
-use Rattle.m2_links_go_on.specs.m2_history.Counted.{logs_of}
-use Rattle.m2_links_go_on.specs.m2_history.Link.{WeavesRecords, both_of}
-use Rattle.m2_links_go_on.specs.m2_history.Lossy.{IsWovenInOrder}
-use Rattle.m2_links_go_on.specs.m2_history.Woven.{strands_of}
-use Rattle.m2_links_go_on.specs.m2_history.WovenLaws.{link_of, strands_in}
-use Rattle.m2_links_go_on.specs.m2_history.WovenLink.{IsLink, IsOrderOf}
-use Rattle.m2_links_go_on.specs.m2_history.declared.history.History.{History}
-use Rattle.m2_links_go_on.specs.m2_history.declared.history.HistoryStep.{HistoryStep}
-use Rattle.m2_links_go_on.specs.m2_history.m2_channel.m2_never_reset.Orders.{AreNodes}
-use Rattle.m2_links_go_on.specs.m2_history.m2_channel.Lossy.{AreLossy}
-use Rattle.m2_links_go_on.proofs.LeftNodes.{are_joined}
-use Rattle.m2_links_go_on.specs.Left.{AreLeftNodes, IsLeftNode}
-use Rattle.m2_record.specs.IsRecord.{IsRecord}
-use Rattle.m2_record.specs.RecordNow.{RecordNow, ids_of}
+use Rattle.m2_node.proofs.m2_links_go_on.m2_growth.Among.{of_each}
+use Rattle.m2_node.proofs.m2_links_go_on.m2_growth.Records.{askers_are}
+use Rattle.m2_node.specs.m2_links_go_on.m2_growth.Halves.{IsOneOf}
+use Rattle.m2_node.proofs.m2_links_go_on.m2_history.Whole.{records_are_sides}
+use Rattle.m2_node.specs.m2_links_go_on.m2_history.Counted.{logs_of}
+use Rattle.m2_node.specs.m2_links_go_on.m2_history.Link.{WeavesRecords, both_of}
+use Rattle.m2_node.specs.m2_links_go_on.m2_history.Lossy.{IsWovenInOrder}
+use Rattle.m2_node.specs.m2_links_go_on.m2_history.Woven.{strands_of}
+use Rattle.m2_node.specs.m2_links_go_on.m2_history.WovenLaws.{link_of, strands_in}
+use Rattle.m2_node.specs.m2_links_go_on.m2_history.WovenLink.{IsLink, IsOrderOf}
+use Rattle.m2_node.specs.m2_links_go_on.m2_history.declared.history.History.{History}
+use Rattle.m2_node.specs.m2_links_go_on.m2_history.declared.history.HistoryStep.{HistoryStep}
+use Rattle.m2_node.specs.m2_links_go_on.m2_history.m2_channel.m2_never_reset.Orders.{AreNodes}
+use Rattle.m2_node.specs.m2_links_go_on.m2_history.m2_channel.Lossy.{AreLossy}
+use Rattle.m2_node.proofs.m2_links_go_on.LeftNodes.{are_joined}
+use Rattle.m2_node.specs.m2_links_go_on.Left.{AreLeftNodes, IsLeftNode}
+use Rattle.m2_node.specs.m2_script.m2_record.IsRecord.{IsRecord}
+use Rattle.m2_node.specs.m2_script.m2_record.RecordNow.{RecordNow, ids_of}
 use Rattle.m2_scenario.specs.Draft.{draft_line}
 use Rattle.m2_scenario.specs.Valid as valid
 use Rattle.m2_scenario.specs.declared.line.Line.{Line}
 use Rattle.m2_scenario.specs.declared.link.Link.{Link}
 use Rattle.m2_scenario.specs.declared.node.Node.{Node}
-use Rattle.m2_script.proofs.Lists.{item_at}
-use Rattle.m2_script.specs.Nodes.{cuts_of}
-use Rattle.m2_script.specs.m2_center.Center.{CenterNow}
-use Rattle.m2_script.specs.m2_center.Finishing.{rest_of}
-use Rattle.m2_script.specs.m2_center.Home.{home_of}
+use Rattle.m2_node.proofs.m2_script.Lists.{item_at}
+use Rattle.m2_node.specs.m2_script.Nodes.{cuts_of}
+use Rattle.m2_node.specs.m2_script.m2_center.Center.{CenterNow}
+use Rattle.m2_node.specs.m2_script.m2_center.Finishing.{rest_of}
+use Rattle.m2_node.specs.m2_script.m2_center.Home.{home_of}
 use Rattle.m2_trail.specs.Arrivals.{LooseNow}
 use Rattle.m2_weave.proofs.Written.{all_read}
 use Rattle.m2_weave.specs.Stops.{IsWoven}
@@ -55,11 +55,11 @@ use Rattle.m2_run.proofs.Times.{one_if, times, times_sum}
 use Rattle.m2_run.proofs.Weighing.{weigh_the_same}
 use Rattle.m2_run.specs.Joined.{AreWoven, IsJoinedBy, IsPromisedIn, IsRunOf, KeptLinksAreJoined, LossyLinksComeInOrder, PostsOfTypes, RunsAreJoined, RunsAreNeverReset}
 use Rattle.m2_run.specs.Kept.{IsKeptNode}
-use Rattle.m2_run.specs.Nodes.{KeptNow, records_in}
+use Rattle.m2_node.specs.Nodes.{KeptNow, records_in}
 use Rattle.m2_run.specs.Ran.{HasRan}
 use Rattle.m2_run.specs.Rests.{EndedCenterNow, EndedNow, IsEndOf, loose_of}
 use Rattle.m2_run.specs.Types.{IsCenterOfTypes}
-use Rattle.m2_run.specs.Way.{IsUnderWay, made_in}
+use Rattle.m2_node.specs.Way.{IsUnderWay, made_in}
 use Rattle.m2_run.specs.Weaving.{HasHistory, side_of, side_towards, towards}
 use Rattle.m2_run.specs.declared.outcome.Outcome.{Outcome}
 

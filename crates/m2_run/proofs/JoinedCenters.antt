@@ -8,28 +8,28 @@ use Rattle.m2_fabric.specs.End.{SeenEnd}
 use Rattle.m2_fabric.specs.Sockets.{goes_to, is_among}
 use Rattle.m2_fabric.specs.declared.socket.SocketId.{SocketId}
 use Rattle.m2_journal.specs.Lawful.{judged_on}
-use Rattle.m2_links_go_on.proofs.Callers.{IsCalled, IsJudgedBy, are_called, judged_by_one, told_all}
-use Rattle.m2_links_go_on.proofs.LinkRecords.{has_one, one_at}
-use Rattle.m2_links_go_on.proofs.Nodes.{ends_of_left}
-use Rattle.m2_links_go_on.proofs.m2_growth.Among.{in_part, mapped_one, of_each, one_back, one_front, whose}
-use Rattle.m2_links_go_on.proofs.m2_growth.Asked.{end_own}
-use Rattle.m2_links_go_on.proofs.m2_growth.Ends.{end_append, first_of, own_first}
-use Rattle.m2_links_go_on.proofs.m2_history.Kept.{records_are_kept}
-use Rattle.m2_links_go_on.specs.Course.{holding_in}
-use Rattle.m2_links_go_on.specs.Left.{IsNamed}
-use Rattle.m2_links_go_on.specs.LeftLaws.{HaveCome}
-use Rattle.m2_links_go_on.specs.m2_growth.Halves.{AskedOnMade, HasItsHalves, IsOneOf, all_left, asked_on, sockets_left, sockets_taken}
-use Rattle.m2_links_go_on.specs.m2_growth.Holding.{AreOwn, HaveTheirHalves, Holding, all_ends, ends_held, waiting_at}
-use Rattle.m2_links_go_on.specs.m2_growth.Records.{ends_of_all}
-use Rattle.m2_links_go_on.specs.m2_history.Link.{IsKeptHalf, end_ids, parts_of}
-use Rattle.m2_record.specs.IsRecord.{IsRecord}
-use Rattle.m2_record.specs.RecordNow.{RecordNow, ends_of, ids_of}
-use Rattle.m2_record.specs.Sources.{end_at}
-use Rattle.m2_record.specs.TakenTrails.{judgements_in}
-use Rattle.m2_script.specs.m2_center.Center.{CenterNow, sessions_in, supply_in}
-use Rattle.m2_script.specs.m2_center.Finishing.{rest_of}
-use Rattle.m2_script.specs.m2_center.m2_turn.Hearing.{ends_in}
-use Rattle.m2_script.specs.m2_center.m2_turn.Sessions.{AreConsistent, IsTold, PendingNow}
+use Rattle.m2_node.proofs.m2_links_go_on.Callers.{IsCalled, IsJudgedBy, are_called, judged_by_one, told_all}
+use Rattle.m2_node.proofs.m2_links_go_on.LinkRecords.{has_one, one_at}
+use Rattle.m2_node.proofs.m2_links_go_on.Nodes.{ends_of_left}
+use Rattle.m2_node.proofs.m2_links_go_on.m2_growth.Among.{in_part, mapped_one, of_each, one_back, one_front, whose}
+use Rattle.m2_node.proofs.m2_links_go_on.m2_growth.Asked.{end_own}
+use Rattle.m2_node.proofs.m2_links_go_on.m2_growth.Ends.{end_append, first_of, own_first}
+use Rattle.m2_node.proofs.m2_links_go_on.m2_history.Kept.{records_are_kept}
+use Rattle.m2_node.specs.m2_links_go_on.Course.{holding_in}
+use Rattle.m2_node.specs.m2_links_go_on.Left.{IsNamed}
+use Rattle.m2_node.specs.m2_links_go_on.LeftLaws.{HaveCome}
+use Rattle.m2_node.specs.m2_links_go_on.m2_growth.Halves.{AskedOnMade, HasItsHalves, IsOneOf, all_left, asked_on, sockets_left, sockets_taken}
+use Rattle.m2_node.specs.m2_links_go_on.m2_growth.Holding.{AreOwn, HaveTheirHalves, Holding, all_ends, ends_held, waiting_at}
+use Rattle.m2_node.specs.m2_links_go_on.m2_growth.Records.{ends_of_all}
+use Rattle.m2_node.specs.m2_links_go_on.m2_history.Link.{IsKeptHalf, end_ids, parts_of}
+use Rattle.m2_node.specs.m2_script.m2_record.IsRecord.{IsRecord}
+use Rattle.m2_node.specs.m2_script.m2_record.RecordNow.{RecordNow, ends_of, ids_of}
+use Rattle.m2_node.specs.m2_script.m2_record.Sources.{end_at}
+use Rattle.m2_node.specs.m2_script.m2_record.TakenTrails.{judgements_in}
+use Rattle.m2_node.specs.m2_script.m2_center.Center.{CenterNow, sessions_in, supply_in}
+use Rattle.m2_node.specs.m2_script.m2_center.Finishing.{rest_of}
+use Rattle.m2_node.specs.m2_script.m2_center.m2_turn.Hearing.{ends_in}
+use Rattle.m2_node.specs.m2_script.m2_center.m2_turn.Sessions.{AreConsistent, IsTold, PendingNow}
 use Rattle.m2_trail.specs.Arrivals.{LooseNow, left_of}
 use Rattle.m2_trail.specs.Trails.{TrailNow}
 use Rattle.m2_run.proofs.Times.{times}

@@ -19,25 +19,25 @@ use Rattle.m2_journal.specs.Lawful.{judged_on}
 use Rattle.m2_journal.specs.State.{Judgement}
 use Rattle.m2_journal.specs.m2_handshake.Asks.{same_addr}
 use Rattle.m2_journal.specs.m2_handshake.Laws.{IsPrefix}
-use Rattle.m2_links_go_on.proofs.LinkRecords as link_records
-use Rattle.m2_links_go_on.proofs.m2_growth.Among.{among_back, among_mapped, each_by, in_part, mapped_one, of_each, one_back, one_front}
-use Rattle.m2_links_go_on.proofs.m2_growth.Asked.{end_own}
-use Rattle.m2_links_go_on.proofs.m2_growth.Ends.{end_append, first_of, on_chain, own_first}
-use Rattle.m2_links_go_on.specs.Course.{holding_in}
-use Rattle.m2_links_go_on.specs.Left.{AllCameOfPeer, CameOfPeer, IsHalfOf, IsLeftNode, IsNamed, IsRecordOf, IsSeen, IsToldBy, LeftNode, ends_left}
-use Rattle.m2_links_go_on.specs.m2_growth.Ends.{AreOfTheirOwn}
-use Rattle.m2_links_go_on.specs.m2_growth.Halves.{AskedTowards, HasItsHalves, IsOneOf, asked_on, sockets_left, sockets_taken}
-use Rattle.m2_links_go_on.specs.m2_growth.Holding.{LeadsElsewhere, all_ends}
-use Rattle.m2_links_go_on.specs.m2_growth.Records.{ends_of_all}
-use Rattle.m2_links_go_on.specs.m2_history.Link.{IsWholeHalf}
-use Rattle.m2_record.specs.IsRecord.{IsRecord}
-use Rattle.m2_record.specs.RecordNow.{RecordNow, ends_of, ids_of}
-use Rattle.m2_record.specs.Sources.{end_at, got_of}
-use Rattle.m2_record.specs.TakenTrails.{judgements_in}
-use Rattle.m2_record.proofs.Kept.{ids-append}
-use Rattle.m2_script.specs.m2_center.Center.{CenterNow}
-use Rattle.m2_script.specs.m2_center.Finishing.{rest_of}
-use Rattle.m2_script.specs.m2_center.m2_turn.Sessions.{peer_of}
+use Rattle.m2_node.proofs.m2_links_go_on.LinkRecords as link_records
+use Rattle.m2_node.proofs.m2_links_go_on.m2_growth.Among.{among_back, among_mapped, each_by, in_part, mapped_one, of_each, one_back, one_front}
+use Rattle.m2_node.proofs.m2_links_go_on.m2_growth.Asked.{end_own}
+use Rattle.m2_node.proofs.m2_links_go_on.m2_growth.Ends.{end_append, first_of, on_chain, own_first}
+use Rattle.m2_node.specs.m2_links_go_on.Course.{holding_in}
+use Rattle.m2_node.specs.m2_links_go_on.Left.{AllCameOfPeer, CameOfPeer, IsHalfOf, IsLeftNode, IsNamed, IsRecordOf, IsSeen, IsToldBy, LeftNode, ends_left}
+use Rattle.m2_node.specs.m2_links_go_on.m2_growth.Ends.{AreOfTheirOwn}
+use Rattle.m2_node.specs.m2_links_go_on.m2_growth.Halves.{AskedTowards, HasItsHalves, IsOneOf, asked_on, sockets_left, sockets_taken}
+use Rattle.m2_node.specs.m2_links_go_on.m2_growth.Holding.{LeadsElsewhere, all_ends}
+use Rattle.m2_node.specs.m2_links_go_on.m2_growth.Records.{ends_of_all}
+use Rattle.m2_node.specs.m2_links_go_on.m2_history.Link.{IsWholeHalf}
+use Rattle.m2_node.specs.m2_script.m2_record.IsRecord.{IsRecord}
+use Rattle.m2_node.specs.m2_script.m2_record.RecordNow.{RecordNow, ends_of, ids_of}
+use Rattle.m2_node.specs.m2_script.m2_record.Sources.{end_at, got_of}
+use Rattle.m2_node.specs.m2_script.m2_record.TakenTrails.{judgements_in}
+use Rattle.m2_node.proofs.m2_script.m2_center.m2_turn.m2_record.Kept.{ids-append}
+use Rattle.m2_node.specs.m2_script.m2_center.Center.{CenterNow}
+use Rattle.m2_node.specs.m2_script.m2_center.Finishing.{rest_of}
+use Rattle.m2_node.specs.m2_script.m2_center.m2_turn.Sessions.{peer_of}
 use Rattle.m2_trail.specs.Arrivals.{LooseNow}
 use Rattle.m2_run.proofs.JoinedCenters as center
 use Rattle.m2_run.proofs.JoinedCenters.{IsLeftCenter}
@@ -45,8 +45,8 @@ use Rattle.m2_run.proofs.SideLists.{OneAt, at_one, beside, one_at, placed_beside
 use Rattle.m2_run.proofs.Times.{among_times, distinct_once, once_distinct, times, times_both, times_of, times_of_two}
 use Rattle.m2_run.specs.Cuts.{bound_of}
 use Rattle.m2_run.specs.Kept.{AreOpened, IsOpenedAs}
-use Rattle.m2_run.specs.Lists.{SideBySide, joined}
-use Rattle.m2_run.specs.Nodes.{KeptNow, loose_at, made_by, records_in}
+use Rattle.m2_node.specs.Lists.{SideBySide, joined}
+use Rattle.m2_node.specs.Nodes.{KeptNow, loose_at, made_by, records_in}
 use Rattle.m2_run.specs.Once.{HasEachOnce, IsUnjudgedAt, sockets_of}
 
 -- what a node leaves that listens at this address

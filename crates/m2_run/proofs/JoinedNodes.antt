@@ -14,20 +14,20 @@ use Rattle.m2_bytes.proofs.m2_lemmas.Lists.{all_append, all_last, all_map, all_r
 use Rattle.m2_bytes.proofs.m2_lemmas.Numbers.{test_turned}
 use Rattle.m2_dispatch.specs.declared.logged.Logged.{Logged}
 use Rattle.m2_fabric.specs.SimFabric.{same_place}
-use Rattle.m2_links_go_on.proofs.m2_growth.Among.{one_back, one_front}
-use Rattle.m2_links_go_on.specs.m2_growth.Halves.{IsOneOf}
-use Rattle.m2_links_go_on.specs.Left.{LeftNode, all_halves}
+use Rattle.m2_node.proofs.m2_links_go_on.m2_growth.Among.{one_back, one_front}
+use Rattle.m2_node.specs.m2_links_go_on.m2_growth.Halves.{IsOneOf}
+use Rattle.m2_node.specs.m2_links_go_on.Left.{LeftNode, all_halves}
 use Rattle.m2_journal.specs.m2_handshake.Asks.{same_addr}
-use Rattle.m2_record.specs.RecordNow.{RecordNow}
-use Rattle.m2_run.proofs.Places.{joined_first, reverse_first}
+use Rattle.m2_node.specs.m2_script.m2_record.RecordNow.{RecordNow}
+use Rattle.m2_node.proofs.Places.{joined_first, reverse_first}
 use Rattle.m2_scenario.specs.declared.node.Node.{Node}
 use Rattle.m2_scenario.specs.Valid.{AreApart}
-use Rattle.m2_script.specs.Nodes.{address_of}
-use Rattle.m2_script.specs.m2_center.Center.{CenterNow}
-use Rattle.m2_script.specs.m2_center.Home.{home_of}
-use Rattle.m2_script.specs.m2_center.m2_turn.Sessions.{peer_of}
+use Rattle.m2_node.specs.m2_script.Nodes.{address_of}
+use Rattle.m2_node.specs.m2_script.m2_center.Center.{CenterNow}
+use Rattle.m2_node.specs.m2_script.m2_center.Home.{home_of}
+use Rattle.m2_node.specs.m2_script.m2_center.m2_turn.Sessions.{peer_of}
 use Rattle.m2_run.proofs.JoinedHalves.{left_at}
-use Rattle.m2_run.specs.Nodes.{KeptNow, loose_at}
+use Rattle.m2_node.specs.Nodes.{KeptNow, loose_at}
 use Rattle.m2_run.specs.Rests.{EndedCenterNow, loose_of}
 use Rattle.m2_run.specs.Weaving.{SideNow, first_of, side_of, side_towards, towards}
 

@@ -6,27 +6,27 @@ use Rattle.std.specs.Option.{option_to_list}
 use Rattle.std.proofs.lemmas.Bool.{cases_lt, eq-eqb, eqb-true}
 use Rattle.std.proofs.lemmas.Option.{get_or_from_slice_get, none-some, same_Some, slice_get_within}
 use Rattle.m2_bytes.proofs.m2_lemmas.Booleans.{both_true, or_left, or_right}
-use Rattle.m2_script.specs.m2_center.Center.{CenterNow}
-use Rattle.m2_links_go_on.specs.Made.{SideMade, node_made, side_made}
+use Rattle.m2_node.specs.m2_script.m2_center.Center.{CenterNow}
+use Rattle.m2_node.specs.m2_links_go_on.Made.{SideMade, node_made, side_made}
 use Rattle.m2_dispatch.specs.declared.logged.Logged.{Logged}
-use Rattle.m2_links_go_on.specs.m2_history.m2_channel.m2_never_reset.Orders.{AreNodes}
-use Rattle.m2_links_go_on.specs.m2_history.m2_channel.Lossy.{AreLossy}
+use Rattle.m2_node.specs.m2_links_go_on.m2_history.m2_channel.m2_never_reset.Orders.{AreNodes}
+use Rattle.m2_node.specs.m2_links_go_on.m2_history.m2_channel.Lossy.{AreLossy}
 use Rattle.m2_journal.specs.SideFacts.{SideFacts}
 use Rattle.m2_policy.specs.Policy.{allows}
 use Rattle.m2_policy.specs.declared.policy.Policy.{Policy}
-use Rattle.m2_record.specs.RecordNow.{RecordNow}
+use Rattle.m2_node.specs.m2_script.m2_record.RecordNow.{RecordNow}
 use Rattle.m2_scenario.specs.Draft.{joins}
 use Rattle.m2_scenario.specs.Valid.{JoinOthers}
 use Rattle.m2_scenario.specs.declared.line.Line.{Line}
 use Rattle.m2_scenario.specs.declared.link.Link.{Link}
 use Rattle.m2_scenario.specs.declared.node.Node.{Node}
-use Rattle.m2_script.specs.Made.{new_towards, other_of, over, records_of}
-use Rattle.m2_script.specs.declared.made.Towards.{Towards}
+use Rattle.m2_node.specs.m2_script.Made.{new_towards, other_of, over, records_of}
+use Rattle.m2_node.specs.m2_script.declared.made.Towards.{Towards}
 use Rattle.m2_run.proofs.JoinedSides.{sides_are, through}
 use Rattle.m2_run.proofs.SideLists.{all_filtered}
-use Rattle.m2_run.specs.Homes.{at_home, is_at_home}
-use Rattle.m2_run.specs.Planned.{side_in, waiting}
-use Rattle.m2_run.specs.Way.{made_in}
+use Rattle.m2_node.specs.Homes.{at_home, is_at_home}
+use Rattle.m2_node.specs.Planned.{side_in, waiting}
+use Rattle.m2_node.specs.Way.{made_in}
 
 -- ---- a link that is joined by a record
 

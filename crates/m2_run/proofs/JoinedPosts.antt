@@ -2,24 +2,24 @@
 use Rattle.std.proofs.Common.{◌≡◌, ℕ, zero, suc, Bool, true, false, ◌&&◌, ◌==◌, if◌then◌else◌, List, [], ◌∷◌, map, Some, None, sym, subst}
 use Rattle.std.specs.Prelude.{slice_get}
 use Rattle.std.specs.List.{AllByRecursion, cons_option}
-use Rattle.m2_links_go_on.proofs.m2_growth.m2_bytes_fit.Posts.{one_post, sendable_keeps}
-use Rattle.m2_links_go_on.specs.m2_growth.m2_bytes_fit.Posts.{IsOfTypes}
-use Rattle.m2_links_go_on.specs.m2_growth.m2_bytes_fit.Texts.{CanBePosted}
-use Rattle.m2_links_go_on.specs.m2_history.Link.{parts_of}
-use Rattle.m2_links_go_on.specs.m2_history.WovenLink.{sources_in}
+use Rattle.m2_node.proofs.m2_links_go_on.m2_growth.m2_bytes_fit.Posts.{one_post, sendable_keeps}
+use Rattle.m2_node.specs.m2_links_go_on.m2_growth.m2_bytes_fit.Posts.{IsOfTypes}
+use Rattle.m2_node.specs.m2_links_go_on.m2_growth.m2_bytes_fit.Texts.{CanBePosted}
+use Rattle.m2_node.specs.m2_links_go_on.m2_history.Link.{parts_of}
+use Rattle.m2_node.specs.m2_links_go_on.m2_history.WovenLink.{sources_in}
 use Rattle.m2_journal.specs.Items as item
 use Rattle.m2_journal.specs.Items.{JournalItem, Places, Sources, at_start, item_of, items_from, passed}
 use Rattle.m2_journal.specs.Plan.{planned}
 use Rattle.m2_journal.specs.declared.entry.Entry.{Entry}
 use Rattle.m2_journal.specs.declared.facts.PlanStep.{PlanStep}
 use Rattle.m2_journal.specs.declared.facts.PlanStep.TheVariants as step
-use Rattle.m2_links_go_on.specs.LeftLaws.{PostsFit}
-use Rattle.m2_record.specs.IsRecord.{CanBePlanned, IsRecord}
-use Rattle.m2_record.specs.RecordNow.{RecordNow}
+use Rattle.m2_node.specs.m2_links_go_on.LeftLaws.{PostsFit}
+use Rattle.m2_node.specs.m2_script.m2_record.IsRecord.{CanBePlanned, IsRecord}
+use Rattle.m2_node.specs.m2_script.m2_record.RecordNow.{RecordNow}
 use Rattle.m2_scenario.specs.declared.line.Line.{Line}
 use Rattle.m2_scenario.specs.declared.line.Line.TheVariants as line
 use Rattle.m2_run.specs.Joined.{PostsOfTypes}
-use Rattle.m2_run.specs.Planned.{plan_in}
+use Rattle.m2_node.specs.Planned.{plan_in}
 
 -- a message that is to be posted keeps the ranges of its types
 abbrev InRanges : PlanStep → Type 0

@@ -7,30 +7,30 @@ use Rattle.std.proofs.lemmas.Bool.{eqb-true}
 use Rattle.std.proofs.lemmas.Option.{get_or_from_slice_get, same_Some, slice_get_within}
 use Rattle.m2_addr.specs.declared.addr.Addr.{Addr}
 use Rattle.m2_bytes.proofs.m2_lemmas.Lists.{all_so_of}
-use Rattle.m2_script.specs.m2_center.Center.{CenterNow}
-use Rattle.m2_script.specs.m2_center.Home.{home_of}
-use Rattle.m2_links_go_on.specs.Made.{NodeMade, SideMade, node_made, side_made}
+use Rattle.m2_node.specs.m2_script.m2_center.Center.{CenterNow}
+use Rattle.m2_node.specs.m2_script.m2_center.Home.{home_of}
+use Rattle.m2_node.specs.m2_links_go_on.Made.{NodeMade, SideMade, node_made, side_made}
 use Rattle.m2_dispatch.specs.declared.logged.Logged.{Logged}
-use Rattle.m2_links_go_on.proofs.m2_growth.Among.{each_by, of_each}
-use Rattle.m2_links_go_on.proofs.m2_growth.m2_bytes_fit.Lists.{cons_same, not_nil}
-use Rattle.m2_links_go_on.specs.m2_growth.Halves.{IsOneOf}
-use Rattle.m2_links_go_on.specs.m2_growth.m2_bytes_fit.Halves.{KeepsRanges}
+use Rattle.m2_node.proofs.m2_links_go_on.m2_growth.Among.{each_by, of_each}
+use Rattle.m2_node.proofs.m2_links_go_on.m2_growth.m2_bytes_fit.Lists.{cons_same, not_nil}
+use Rattle.m2_node.specs.m2_links_go_on.m2_growth.Halves.{IsOneOf}
+use Rattle.m2_node.specs.m2_links_go_on.m2_growth.m2_bytes_fit.Halves.{KeepsRanges}
 use Rattle.m2_journal.specs.SideFacts.{SideFacts}
-use Rattle.m2_links_go_on.specs.Left.{IsNamed}
-use Rattle.m2_record.specs.RecordNow.{RecordNow}
+use Rattle.m2_node.specs.m2_links_go_on.Left.{IsNamed}
+use Rattle.m2_node.specs.m2_script.m2_record.RecordNow.{RecordNow}
 use Rattle.m2_scenario.specs.declared.line.Line.{Line}
 use Rattle.m2_scenario.specs.declared.link.Link.{Link}
 use Rattle.m2_scenario.specs.declared.node.Node.{Node}
 use Rattle.m2_scenario.specs.Draft.{DraftLine}
 use Rattle.m2_scenario.specs.Valid.{HasMsgr2, IsSound}
-use Rattle.m2_script.proofs.Over.{IsOver, all_over}
-use Rattle.m2_script.specs.Made.{records_of}
-use Rattle.m2_run.proofs.Filters.{filter_mapped}
+use Rattle.m2_node.proofs.m2_script.Over.{IsOver, all_over}
+use Rattle.m2_node.specs.m2_script.Made.{records_of}
+use Rattle.m2_node.proofs.Filters.{filter_mapped}
 use Rattle.m2_run.proofs.SideLists.{all_filtered}
-use Rattle.m2_run.specs.Homes.{at_home, home_at, home_of_node, is_at_home}
-use Rattle.m2_run.specs.Planned.{plan_in, side_in, waiting}
+use Rattle.m2_node.specs.Homes.{at_home, home_at, home_of_node, is_at_home}
+use Rattle.m2_node.specs.Planned.{plan_in, side_in, waiting}
 use Rattle.m2_run.specs.Types.{IsRanged}
-use Rattle.m2_run.specs.Way.{made_in}
+use Rattle.m2_node.specs.Way.{made_in}
 
 -- ---- lists that show the same
 

@@ -11,13 +11,13 @@ use Rattle.m2_fabric.specs.Sockets.{same_socket}
 use Rattle.m2_fabric.specs.declared.port.Cut.{Cut}
 use Rattle.m2_fabric.specs.declared.socket.SocketId.{SocketId}
 use Rattle.m2_scenario.specs.declared.node.Node.{Node}
-use Rattle.m2_script.specs.m2_center.Center.{CenterNow}
+use Rattle.m2_node.specs.m2_script.m2_center.Center.{CenterNow}
 use Rattle.m2_trail.specs.Arrivals.{LooseNow}
-use Rattle.m2_run.specs.Nodes.{KeptNow, RunNodeNow, made_by}
+use Rattle.m2_node.specs.Nodes.{KeptNow, RunNodeNow, made_by}
 use Rattle.m2_run.specs.Once.{HasEachOnce, IsUnjudgedAt, sockets_of}
 use Rattle.m2_run.specs.Opened.{AreOpenedNodes, HaveEachOnce, OpenedNow, all_kept, made_in, untold}
 use Rattle.m2_run.specs.Rests.{EndedCenterNow, IsEndOfCenter}
-use Rattle.m2_run.proofs.Beside.{side_flat}
+use Rattle.m2_node.proofs.Beside.{side_flat}
 use Rattle.m2_run.proofs.Finished.{kept_at}
 
 -- ---- as they are kept

@@ -6,17 +6,17 @@ use Rattle.std.specs.Result.{is_err}
 use Rattle.std.proofs.lemmas.List.{append-nil, length-map, length-reverse, reverse-reverse}
 use Rattle.std.proofs.lemmas.Option.{none-some, same_Some, slice_get_within}
 use Rattle.m2_bytes.proofs.m2_lemmas.Lists.{all_last}
-use Rattle.m2_script.specs.m2_center.Center.{CenterNow}
+use Rattle.m2_node.specs.m2_script.m2_center.Center.{CenterNow}
 use Rattle.m2_dispatch.specs.declared.logged.Logged.{Logged}
 use Rattle.m2_fabric.specs.declared.port.Cut.{Cut}
 use Rattle.m2_trail.specs.Arrivals.{LooseNow}
-use Rattle.m2_run.specs.Nodes.{RunNodeNow}
+use Rattle.m2_node.specs.Nodes.{RunNodeNow}
 use Rattle.m2_run.specs.Opened.{AreOpenedNodes, AreRightsTo, EndsCenter, EndsCenters, EndsNext, HasRoomsFor, IsOpenedNode, OpenedNow, WeighsUp, ended_of, loose_in, parts_in, untold}
 use Rattle.m2_run.specs.Rests.{EndedCenterNow, EndedNow}
 use Rattle.m2_run.specs.Types.{IsCenterOfTypes}
 use Rattle.m2_run.proofs.Apart.{Inboxes, none_end, one_end_more}
-use Rattle.m2_run.proofs.Beside.{next_turned}
-use Rattle.m2_run.proofs.Places.{below_or_at, get_before, get_behind, joined_first, reverse_last}
+use Rattle.m2_node.proofs.Beside.{next_turned}
+use Rattle.m2_node.proofs.Places.{below_or_at, get_before, get_behind, joined_first, reverse_last}
 
 -- what a call that hasn't failed has ensured
 pub so_on_ok : {T E P : Type 0} (r : Result T E) → is_err r ≡ false → OnOk r P → P

@@ -10,10 +10,10 @@ use Rattle.std.proofs.lemmas.Option.{slice_get-map, slice_get_past}
 use Rattle.m2_dispatch.specs.Heard.{Heard, heard_by, heard_of, is_message_from}
 use Rattle.m2_dispatch.specs.declared.logged.Logged.{Logged}
 use Rattle.m2_fabric.specs.declared.socket.SocketId.{SocketId}
-use Rattle.m2_record.specs.RecordNow.{RecordNow}
-use Rattle.m2_run.specs.Nodes.{RunNodeNow, as_one}
-use Rattle.m2_script.specs.m2_center.Center.{CenterNow}
-use Rattle.m2_script.specs.m2_cluster.Node.{NodeNow}
+use Rattle.m2_node.specs.m2_script.m2_record.RecordNow.{RecordNow}
+use Rattle.m2_node.specs.Nodes.{RunNodeNow, as_one}
+use Rattle.m2_node.specs.m2_script.m2_center.Center.{CenterNow}
+use Rattle.m2_node.specs.m2_script.m2_cluster.Node.{NodeNow}
 
 -- ---- what centers have
 

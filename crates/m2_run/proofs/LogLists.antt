@@ -3,11 +3,11 @@ use Rattle.std.proofs.Common.{◌≡◌, List, [], ◌∷◌, ◌++◌, reverse,
 use Rattle.std.proofs.lemmas.List.{reverse-reverse}
 use Rattle.m2_bytes.specs.Items.{Holding}
 use Rattle.m2_dispatch.specs.declared.logged.Logged.{Logged}
-use Rattle.m2_run.specs.Handing.{AddsLog, IsLogOf}
-use Rattle.m2_run.specs.Lists.{SideBySide}
-use Rattle.m2_run.specs.Nodes.{RunNodeNow}
-use Rattle.m2_run.proofs.Beside.{side_last}
-use Rattle.m2_run.proofs.Places.{reverse_last}
+use Rattle.m2_node.specs.Handing.{AddsLog, IsLogOf}
+use Rattle.m2_node.specs.Lists.{SideBySide}
+use Rattle.m2_node.specs.Nodes.{RunNodeNow}
+use Rattle.m2_node.proofs.Beside.{side_last}
+use Rattle.m2_node.proofs.Places.{reverse_last}
 
 -- of those before the ones that are left, which are turned round
 pub record AreLogged (all left : List RunNodeNow) (logs : List (Holding Logged)) : Type 0 where

@@ -2,18 +2,18 @@
 use Rattle.std.proofs.Common.{◌≡◌, inl, inr, ℕ, zero, suc, ◌+◌, ◌<◌, ◌≤◌, Bool, true, false, List, [], ◌∷◌, length, Some, refl, sym, ap, subst, ◌∙◌, arith, le_refl, le_trans, eq-or-lt_of_le}
 use Rattle.std.specs.Prelude.{slice_get, slice_set}
 use Rattle.std.proofs.lemmas.Option.{same_Some, slice_get_within}
-use Rattle.m2_script.specs.m2_center.Center.{CenterNow}
+use Rattle.m2_node.specs.m2_script.m2_center.Center.{CenterNow}
 use Rattle.m2_dispatch.specs.declared.logged.Logged.{Logged}
 use Rattle.m2_fabric.proofs.m2_lemmas.Booleans.{false_isnt_true}
 use Rattle.m2_fabric.proofs.m2_lemmas.Lists.{set_keeps_length}
 use Rattle.m2_scenario.specs.declared.node.Node.{Node}
 use Rattle.m2_run.specs.Settling.{HaveGoneOn, OneNodeDoes}
-use Rattle.m2_links_go_on.specs.ClusterTold.{OneByOne}
-use Rattle.m2_run.specs.Nodes.{RunNodeNow}
-use Rattle.m2_run.specs.Way.{AllPoll, AllTurn, GoesOn, NodeGoesOn, NodePollsSo, NodeTurnsSo, PollsSo, TurnsSo}
-use Rattle.m2_run.specs.WayLaws.{PollsGoOn, TurnsGoOn, WaitingGoesOn}
-use Rattle.m2_run.proofs.Way.{goes_not, goes_then}
-use Rattle.m2_script.proofs.Lists.{get_other, get_set}
+use Rattle.m2_node.specs.m2_links_go_on.ClusterTold.{OneByOne}
+use Rattle.m2_node.specs.Nodes.{RunNodeNow}
+use Rattle.m2_node.specs.Way.{AllPoll, AllTurn, GoesOn, NodeGoesOn, NodePollsSo, NodeTurnsSo, PollsSo, TurnsSo}
+use Rattle.m2_node.specs.WayLaws.{PollsGoOn, TurnsGoOn, WaitingGoesOn}
+use Rattle.m2_node.proofs.Way.{goes_not, goes_then}
+use Rattle.m2_node.proofs.m2_script.Lists.{get_other, get_set}
 
 -- ---- places of lists
 

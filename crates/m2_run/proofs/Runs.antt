@@ -6,51 +6,51 @@ use Rattle.std.proofs.lemmas.List.{length-map}
 use Rattle.std.proofs.lemmas.Option.{slice_get_within}
 use Rattle.m2_bytes.proofs.m2_lemmas.Lists.{all_at, all_by_places, get_map}
 use Rattle.m2_bytes.specs.Items.{Holding}
-use Rattle.m2_script.specs.m2_center.Center.{CenterNow}
-use Rattle.m2_script.specs.m2_center.Finishing.{rest_of}
+use Rattle.m2_node.specs.m2_script.m2_center.Center.{CenterNow}
+use Rattle.m2_node.specs.m2_script.m2_center.Finishing.{rest_of}
 use Rattle.m2_dispatch.specs.declared.logged.Logged.{Logged}
 use Rattle.m2_edge.specs.Faults.{next_count}
 use Rattle.m2_fabric.specs.Fabric.{SeenFabric}
 use Rattle.m2_fabric.specs.declared.port.Cut.{Cut}
 use Rattle.m2_handover.specs.Handed.{OnItsWay}
 use Rattle.m2_handover.specs.m2_mailbox.declared.inbox.Inbox.{Inbox}
-use Rattle.m2_links_go_on.specs.Course.{IsOnCourse}
-use Rattle.m2_links_go_on.specs.CourseEnded.{HasRunItsCourse}
-use Rattle.m2_links_go_on.specs.Left.{IsSeen}
-use Rattle.m2_links_go_on.specs.Made.{NodeMade}
-use Rattle.m2_links_go_on.specs.m2_history.Link.{IsWholeHalf}
-use Rattle.m2_links_go_on.specs.m2_history.declared.history.WeaveFault.{WeaveFault}
-use Rattle.m2_links_go_on.specs.m2_history.declared.history.WeaveFault.TheVariants as weaving
+use Rattle.m2_node.specs.m2_links_go_on.Course.{IsOnCourse}
+use Rattle.m2_node.specs.m2_links_go_on.CourseEnded.{HasRunItsCourse}
+use Rattle.m2_node.specs.m2_links_go_on.Left.{IsSeen}
+use Rattle.m2_node.specs.m2_links_go_on.Made.{NodeMade}
+use Rattle.m2_node.specs.m2_links_go_on.m2_history.Link.{IsWholeHalf}
+use Rattle.m2_node.specs.m2_links_go_on.m2_history.declared.history.WeaveFault.{WeaveFault}
+use Rattle.m2_node.specs.m2_links_go_on.m2_history.declared.history.WeaveFault.TheVariants as weaving
 use Rattle.m2_scenario.specs.Report.{AreLogsOf}
 use Rattle.m2_scenario.specs.declared.line.Line.{Line}
 use Rattle.m2_scenario.specs.declared.link.Link.{Link}
 use Rattle.m2_scenario.specs.declared.node.Node.{Node}
-use Rattle.m2_script.specs.Nodes.{cuts_of}
+use Rattle.m2_node.specs.m2_script.Nodes.{cuts_of}
 use Rattle.m2_trail.specs.Arrivals.{LooseNow}
 use Rattle.m2_trail.specs.declared.home.HomeOf.{HomeOf}
 use Rattle.m2_run.specs.Cuts.{AreCutsOf, cuts_at}
 use Rattle.m2_run.specs.Gathering.{ArePortsTold}
 use Rattle.m2_run.specs.Kept.{AllGathered, AreOpened, IsGathered, IsKeptNode, IsKeptRun, IsUntouched, MadeIsHeld, left_of}
-use Rattle.m2_run.specs.Lists.{SideBySide}
-use Rattle.m2_run.specs.Nodes.{KeptNow, RunNodeNow, nodes_of}
+use Rattle.m2_node.specs.Lists.{SideBySide}
+use Rattle.m2_node.specs.Nodes.{KeptNow, RunNodeNow, nodes_of}
 use Rattle.m2_run.specs.Opened.{AllAreThere, AllClosed, AreOpenedNodes, HasRoomsFor, HaveEachOnce, IsClosed, IsOpenedNode, OpenedNow, all_kept, ended_of, loose_in, made_of_all}
 use Rattle.m2_run.specs.Ran.{AreLeftBy, EndsInFault, HasFinished, HasRan, HasStalled, HaveEnded, IsFaultOf, ShowsEnd, ShowsFault, fault_told}
 use Rattle.m2_run.specs.Rests.{AreEndsOf, EndedCenterNow, EndedNow, IsEndOfCenter, Shown, loose_of, shown_of}
 use Rattle.m2_run.specs.Settling.{HasPlayed, HasStopped}
 use Rattle.m2_run.specs.Still.{AllRest, IsAtRest}
 use Rattle.m2_run.specs.Types.{IsCenterOfTypes, IsOfTypes}
-use Rattle.m2_run.specs.Way.{AllGoOn, AreNodesOf, AreOut, GoesOn, IsCenterOf, IsNodeOf, IsOff, NodeGoesOn, made_in}
+use Rattle.m2_node.specs.Way.{AllGoOn, AreNodesOf, AreOut, GoesOn, IsCenterOf, IsNodeOf, IsOff, NodeGoesOn, made_in}
 use Rattle.m2_run.specs.Weaving.{WeavesAll}
 use Rattle.m2_run.specs.declared.outcome.Outcome.{Outcome}
 use Rattle.m2_run.specs.declared.outcome.RunFault.{RunFault}
 use Rattle.m2_run.specs.declared.outcome.RunFault.TheVariants as fault
-use Rattle.m2_run.proofs.Beside.{side_get, side_length}
+use Rattle.m2_node.proofs.Beside.{side_get, side_length}
 use Rattle.m2_run.proofs.Finished.{kept_as_ran, kept_ends, kept_held, kept_loose, kept_opened, kept_rest, kept_types}
 use Rattle.m2_run.proofs.KeptOnce.{kept_once}
-use Rattle.m2_run.proofs.Places.{get_too}
+use Rattle.m2_node.proofs.Places.{get_too}
 use Rattle.m2_run.proofs.Told.{logs_of_nodes, node_within}
 use Rattle.m2_run.proofs.Weighing.{made_is_held}
-use Rattle.m2_run.proofs.Workers.{one_at, one_length}
+use Rattle.m2_node.proofs.Workers.{one_at, one_length}
 
 -- ---- nodes go on to where they stopped
 

@@ -5,7 +5,7 @@ use Rattle.std.proofs.lemmas.List.Sums.{fold_more}
 use Rattle.m2_scenario.specs.declared.link.Link.{Link}
 use Rattle.m2_scenario.specs.declared.node.Node.{Node}
 use Rattle.m2_run.specs.Kept.{left_of}
-use Rattle.m2_run.specs.Nodes.{RunNodeNow}
+use Rattle.m2_node.specs.Nodes.{RunNodeNow}
 use Rattle.m2_run.specs.Ran.{HasStalled}
 use Rattle.m2_run.specs.Settling.{IsSettled}
 

@@ -3,9 +3,9 @@ use Rattle.std.proofs.Common.{◌≡◌, ◌⊎◌, inl, inr, ℕ, zero, suc, Bo
 use Rattle.std.specs.Prelude.{filter, slice_get}
 use Rattle.std.specs.List.{AllByRecursion, flat_map}
 use Rattle.std.proofs.lemmas.Option.{none-some, same_Some}
-use Rattle.m2_links_go_on.proofs.m2_growth.Among.{in_part, one_back, one_front}
-use Rattle.m2_links_go_on.specs.m2_growth.Halves.{IsOneOf}
-use Rattle.m2_run.specs.Lists.{SideBySide}
+use Rattle.m2_node.proofs.m2_links_go_on.m2_growth.Among.{in_part, one_back, one_front}
+use Rattle.m2_node.specs.m2_links_go_on.m2_growth.Halves.{IsOneOf}
+use Rattle.m2_node.specs.Lists.{SideBySide}
 
 -- ---- lists of lists
 

@@ -8,9 +8,9 @@ use Rattle.std.proofs.lemmas.List.Sums.{sum_by_push}
 use Rattle.std.proofs.lemmas.Option.{get_or_from_slice_get, same_Some, slice_get_within}
 use Rattle.m2_dispatch.specs.declared.logged.Logged.{Logged}
 use Rattle.m2_scenario.specs.declared.node.Node.{Node}
-use Rattle.m2_script.specs.m2_center.Center.{CenterNow}
-use Rattle.m2_script.specs.m2_center.Idle.{is_idle}
-use Rattle.m2_run.specs.Nodes.{RunNodeNow}
+use Rattle.m2_node.specs.m2_script.m2_center.Center.{CenterNow}
+use Rattle.m2_node.specs.m2_script.m2_center.Idle.{is_idle}
+use Rattle.m2_node.specs.Nodes.{RunNodeNow}
 use Rattle.m2_run.specs.Still.{AllBelow, AreStill, IsFoundAt, IsIdleAt, IsMetAt, IsMetFrom, is_on, missing_at, missing_between, missing_from, missing_in, refused_by}
 
 -- ---- places

@@ -8,27 +8,27 @@ use Rattle.std.proofs.lemmas.List.{map-append}
 use Rattle.std.proofs.lemmas.List.Elements.{All-from_recursion}
 use Rattle.std.proofs.lemmas.Option.{slice_get_within}
 use Rattle.m2_bytes.proofs.m2_lemmas.Lists.{all_append, all_back, all_filter, all_front}
-use Rattle.m2_run.proofs.Merging.{all_of_merge}
+use Rattle.m2_node.proofs.Merging.{all_of_merge}
 use Rattle.m2_bytes.specs.Items.{Holding}
-use Rattle.m2_script.specs.m2_center.Center.{CenterNow}
-use Rattle.m2_links_go_on.specs.Made.{SideMade, side_made}
+use Rattle.m2_node.specs.m2_script.m2_center.Center.{CenterNow}
+use Rattle.m2_node.specs.m2_links_go_on.Made.{SideMade, side_made}
 use Rattle.m2_dispatch.specs.Heard.{Heard, heard_by, heard_of, peer_of}
 use Rattle.m2_dispatch.specs.declared.logged.Logged.{Logged}
-use Rattle.m2_links_go_on.specs.OfPeers.{IsPeerOf}
-use Rattle.m2_record.specs.RecordNow.{RecordNow}
+use Rattle.m2_node.specs.m2_links_go_on.OfPeers.{IsPeerOf}
+use Rattle.m2_node.specs.m2_script.m2_record.RecordNow.{RecordNow}
 use Rattle.m2_scenario.specs.Report.{AreLogsOf, IsLogOf, IsOfNodes, heard_in}
 use Rattle.m2_scenario.specs.declared.line.Line.{Line}
 use Rattle.m2_scenario.specs.declared.link.Link.{Link}
 use Rattle.m2_scenario.specs.declared.node.Node.{Node}
-use Rattle.m2_script.specs.Made.{new_towards, other_of, over, records_of}
-use Rattle.m2_script.specs.declared.made.Towards.{Towards}
-use Rattle.m2_run.specs.Homes.{is_at_home}
-use Rattle.m2_run.specs.Nodes.{RunNodeNow, fast_in, queued_in}
-use Rattle.m2_run.specs.Planned.{side_in, sides_in}
-use Rattle.m2_run.specs.Handing.{AreBoth, AreHeardAtEnd, IsLogOf as IsDispatcherLogOf, handed_by, heard_at_once, heard_in_order}
-use Rattle.m2_run.specs.Lists.{SideBySide}
-use Rattle.m2_run.proofs.Beside.{side_length}
-use Rattle.m2_run.specs.Way.{IsNodeOf, IsUnderWay, made_in}
+use Rattle.m2_node.specs.m2_script.Made.{new_towards, other_of, over, records_of}
+use Rattle.m2_node.specs.m2_script.declared.made.Towards.{Towards}
+use Rattle.m2_node.specs.Homes.{is_at_home}
+use Rattle.m2_node.specs.Nodes.{RunNodeNow, fast_in, queued_in}
+use Rattle.m2_node.specs.Planned.{side_in, sides_in}
+use Rattle.m2_node.specs.Handing.{AreBoth, AreHeardAtEnd, IsLogOf as IsDispatcherLogOf, handed_by, heard_at_once, heard_in_order}
+use Rattle.m2_node.specs.Lists.{SideBySide}
+use Rattle.m2_node.proofs.Beside.{side_length}
+use Rattle.m2_node.specs.Way.{IsNodeOf, IsUnderWay, made_in}
 
 -- a record is towards a node that there is
 abbrev IsTowardsOne : ℕ → RecordNow → Type 0

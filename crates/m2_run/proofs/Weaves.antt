@@ -6,20 +6,20 @@ use Rattle.std.proofs.lemmas.Bool.{false≢true, ne_eqb}
 use Rattle.std.proofs.lemmas.Option.{none-some, same_Some}
 use Rattle.m2_bytes.proofs.m2_lemmas.Numbers.{same_number}
 use Rattle.m2_dispatch.specs.declared.logged.Logged.{Logged}
-use Rattle.m2_links_go_on.specs.m2_history.Counted.{logs_of}
-use Rattle.m2_links_go_on.specs.m2_history.Link.{WeavesRecords, both_of}
-use Rattle.m2_links_go_on.specs.m2_history.Lossy.{IsInOrderIn}
-use Rattle.m2_links_go_on.specs.m2_history.Marked.{IsToAMarkIn}
-use Rattle.m2_links_go_on.specs.m2_history.WovenLaws.{IsDeliveredIn, IsUnreset, link_of}
-use Rattle.m2_links_go_on.specs.m2_history.declared.history.History.{History}
-use Rattle.m2_links_go_on.specs.m2_history.declared.history.WeaveFault.{WeaveFault}
-use Rattle.m2_links_go_on.specs.m2_history.declared.history.WeaveFault.TheVariants as fault
-use Rattle.m2_record.specs.RecordNow.{RecordNow}
+use Rattle.m2_node.specs.m2_links_go_on.m2_history.Counted.{logs_of}
+use Rattle.m2_node.specs.m2_links_go_on.m2_history.Link.{WeavesRecords, both_of}
+use Rattle.m2_node.specs.m2_links_go_on.m2_history.Lossy.{IsInOrderIn}
+use Rattle.m2_node.specs.m2_links_go_on.m2_history.Marked.{IsToAMarkIn}
+use Rattle.m2_node.specs.m2_links_go_on.m2_history.WovenLaws.{IsDeliveredIn, IsUnreset, link_of}
+use Rattle.m2_node.specs.m2_links_go_on.m2_history.declared.history.History.{History}
+use Rattle.m2_node.specs.m2_links_go_on.m2_history.declared.history.WeaveFault.{WeaveFault}
+use Rattle.m2_node.specs.m2_links_go_on.m2_history.declared.history.WeaveFault.TheVariants as fault
+use Rattle.m2_node.specs.m2_script.m2_record.RecordNow.{RecordNow}
 use Rattle.m2_scenario.specs.declared.link.Link.{Link}
 use Rattle.m2_trail.specs.Arrivals.{LooseNow}
 use Rattle.m2_run.specs.Rests.{EndedCenterNow, EndedNow}
 use Rattle.m2_run.specs.Weaving.{HasHistory, IsLinkOf, SideNow, WeavesAll, WeavesLink, first_of, side_of, side_towards, towards}
-use Rattle.m2_run.proofs.Places.{drop_here}
+use Rattle.m2_node.proofs.Places.{drop_here}
 
 -- the links before this one have a history
 abbrev pub HaveBefore : List EndedNow → List LooseNow → List Link → ℕ → Type 0

@@ -6,13 +6,13 @@ use Rattle.m2_fabric.specs.declared.socket.SocketId.{SocketId}
 use Rattle.m2_fabric.specs.Sockets.{is_among, same_socket}
 use Rattle.m2_fabric.proofs.Sockets.{same_equal, same_refl, same_turned}
 use Rattle.m2_fabric.proofs.m2_lemmas.Booleans.{false_isnt_true}
-use Rattle.m2_script.specs.m2_center.Center.{CenterNow}
-use Rattle.m2_script.specs.m2_center.Finishing.{rest_of}
+use Rattle.m2_node.specs.m2_script.m2_center.Center.{CenterNow}
+use Rattle.m2_node.specs.m2_script.m2_center.Finishing.{rest_of}
 use Rattle.m2_dispatch.specs.declared.logged.Logged.{Logged}
 use Rattle.m2_fabric.specs.End.{SeenEnd}
-use Rattle.m2_links_go_on.specs.CourseEnded.{HasRunItsCourse, ends_left}
-use Rattle.m2_links_go_on.specs.Made.{NodeMade}
-use Rattle.m2_record.specs.RecordNow.{RecordNow, feed_end, ids_of}
+use Rattle.m2_node.specs.m2_links_go_on.CourseEnded.{HasRunItsCourse, ends_left}
+use Rattle.m2_node.specs.m2_links_go_on.Made.{NodeMade}
+use Rattle.m2_node.specs.m2_script.m2_record.RecordNow.{RecordNow, feed_end, ids_of}
 use Rattle.m2_run.specs.Kept.{MadeIsHeld, ends_of_records}
 use Rattle.m2_trail.specs.Arrivals.{LooseNow}
 

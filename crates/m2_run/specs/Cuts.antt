@@ -7,10 +7,10 @@ use Rattle.m2_fabric.specs.End.{SeenEnd}
 use Rattle.m2_fabric.specs.Sockets.{goes_to, same_socket}
 use Rattle.m2_fabric.specs.declared.port.Cut.{Cut}
 use Rattle.m2_fabric.specs.declared.socket.SocketId.{SocketId}
-use Rattle.m2_links_go_on.specs.ClusterTold.{OneByOne}
+use Rattle.m2_node.specs.m2_links_go_on.ClusterTold.{OneByOne}
 use Rattle.m2_scenario.specs.declared.line.Line.{Line}
 use Rattle.m2_scenario.specs.declared.node.Node.{Node}
-use Rattle.m2_script.specs.Nodes.{cuts_of}
+use Rattle.m2_node.specs.m2_script.Nodes.{cuts_of}
 
 -- ---- which socket breaks
 

@@ -13,7 +13,7 @@ use Rattle.m2_scenario.specs.declared.node.Node.{Node}
 use Rattle.m2_trail.specs.Arrivals.{LooseNow}
 use Rattle.m2_run.specs.Cuts.{AreEndsOver}
 use Rattle.m2_run.specs.Kept.{ends_of_record}
-use Rattle.m2_run.specs.Lists.{SideBySide, joined}
+use Rattle.m2_node.specs.Lists.{SideBySide, joined}
 use Rattle.m2_run.specs.Rests.{EndedCenterNow, EndedNow}
 
 -- the ends that are in these go last

@@ -2,17 +2,17 @@
 use Rattle.std.specs.Prelude.{◌≡◌, ◌⊎◌, ℕ, true, false, List, map, slice_get, Some, Ok}
 use Rattle.std.specs.List.{AllByRecursion}
 use Rattle.m2_fabric.specs.Fabric.{SeenFabric}
-use Rattle.m2_links_go_on.specs.m2_growth.m2_bytes_fit.Orders.{entries_of}
-use Rattle.m2_links_go_on.specs.m2_growth.m2_bytes_fit.Posts.{IsOfTypes}
-use Rattle.m2_links_go_on.specs.m2_history.Counted.{logs_of}
-use Rattle.m2_links_go_on.specs.m2_history.Link.{WeavesRecords, both_of}
-use Rattle.m2_links_go_on.specs.m2_history.Lossy.{IsWovenInOrder}
-use Rattle.m2_links_go_on.specs.m2_history.Marked.{IsWovenToAMark}
-use Rattle.m2_links_go_on.specs.m2_history.WovenLaws.{IsWovenDelivered, link_of, strands_in}
-use Rattle.m2_links_go_on.specs.m2_history.WovenLink.{AreUp, IsLink, IsOrderOf, LinkNow, order_of}
-use Rattle.m2_links_go_on.specs.m2_history.declared.history.History.{History}
-use Rattle.m2_links_go_on.specs.m2_history.m2_channel.m2_never_reset.Orders.{IsNeverReset}
-use Rattle.m2_record.specs.RecordNow.{RecordNow}
+use Rattle.m2_node.specs.m2_links_go_on.m2_growth.m2_bytes_fit.Orders.{entries_of}
+use Rattle.m2_node.specs.m2_links_go_on.m2_growth.m2_bytes_fit.Posts.{IsOfTypes}
+use Rattle.m2_node.specs.m2_links_go_on.m2_history.Counted.{logs_of}
+use Rattle.m2_node.specs.m2_links_go_on.m2_history.Link.{WeavesRecords, both_of}
+use Rattle.m2_node.specs.m2_links_go_on.m2_history.Lossy.{IsWovenInOrder}
+use Rattle.m2_node.specs.m2_links_go_on.m2_history.Marked.{IsWovenToAMark}
+use Rattle.m2_node.specs.m2_links_go_on.m2_history.WovenLaws.{IsWovenDelivered, link_of, strands_in}
+use Rattle.m2_node.specs.m2_links_go_on.m2_history.WovenLink.{AreUp, IsLink, IsOrderOf, LinkNow, order_of}
+use Rattle.m2_node.specs.m2_links_go_on.m2_history.declared.history.History.{History}
+use Rattle.m2_node.specs.m2_links_go_on.m2_history.m2_channel.m2_never_reset.Orders.{IsNeverReset}
+use Rattle.m2_node.specs.m2_script.m2_record.RecordNow.{RecordNow}
 use Rattle.m2_scenario.specs.Draft.{draft_line}
 use Rattle.m2_scenario.specs.Valid.{IsSound}
 use Rattle.m2_scenario.specs.declared.line.Line.{Line}
@@ -21,7 +21,7 @@ use Rattle.m2_scenario.specs.declared.link.Link.{Link}
 use Rattle.m2_scenario.specs.declared.node.Node.{Node}
 use Rattle.m2_run.specs.Kept.{IsKeptRun}
 use Rattle.m2_run.specs.Ran.{HasRan}
-use Rattle.m2_run.specs.Nodes.{KeptNow}
+use Rattle.m2_node.specs.Nodes.{KeptNow}
 use Rattle.m2_run.specs.Rests.{AreEndsOf, EndedCenterNow, EndedNow, loose_of}
 use Rattle.m2_run.specs.Weaving.{IsLinkOf}
 use Rattle.m2_run.specs.declared.outcome.Outcome.{Outcome}

@@ -7,9 +7,9 @@
 use Rattle.std.specs.Prelude.{◌≡◌, ℕ, ◌≤◌, true, false, if◌then◌else◌, List, [], ◌++◌, fold, length, map, max, slice_get, sum_by, Option, Some, IfSome}
 use Rattle.std.specs.List.{flat_map, list_any}
 use Rattle.m2_bytes.specs.Items.{Holding}
-use Rattle.m2_script.specs.m2_center.Center.{CenterNow}
-use Rattle.m2_script.specs.m2_center.Finishing.{rest_of}
-use Rattle.m2_links_go_on.specs.Course.{is_productive}
+use Rattle.m2_node.specs.m2_script.m2_center.Center.{CenterNow}
+use Rattle.m2_node.specs.m2_script.m2_center.Finishing.{rest_of}
+use Rattle.m2_node.specs.m2_links_go_on.Course.{is_productive}
 use Rattle.m2_dispatch.specs.Heard.{heard_by}
 use Rattle.m2_dispatch.specs.declared.logged.Logged.{Logged}
 use Rattle.m2_edge.specs.Faults.{next_count}
@@ -19,22 +19,22 @@ use Rattle.m2_fabric.specs.Port.{SeenPort}
 use Rattle.m2_fabric.specs.declared.port.Cut.{Cut}
 use Rattle.m2_fabric.specs.declared.socket.SocketId.{SocketId}
 use Rattle.m2_handover.specs.End.{IsHalfInside, told_nothing}
-use Rattle.m2_record.specs.RecordNow.{RecordNow, feed_end}
+use Rattle.m2_node.specs.m2_script.m2_record.RecordNow.{RecordNow, feed_end}
 use Rattle.m2_scenario.specs.declared.line.Line.{Line}
 use Rattle.m2_scenario.specs.declared.link.Link.{Link}
 use Rattle.m2_scenario.specs.declared.node.Node.{Node}
-use Rattle.m2_script.specs.Ended.{ended}
-use Rattle.m2_script.specs.Nodes.{cuts_of}
-use Rattle.m2_script.specs.Outcome.{left_in}
-use Rattle.m2_script.specs.Script.{RunNow}
+use Rattle.m2_node.specs.m2_script.Ended.{ended}
+use Rattle.m2_node.specs.m2_script.Nodes.{cuts_of}
+use Rattle.m2_node.specs.m2_script.Outcome.{left_in}
+use Rattle.m2_node.specs.m2_script.Script.{RunNow}
 use Rattle.m2_trail.specs.Arrivals.{LooseNow}
 use Rattle.m2_run.specs.Cuts.{AreEndsOver, IsEndOver, bound_of, cuts_at}
-use Rattle.m2_run.specs.Lists.{SideBySide, joined}
-use Rattle.m2_run.specs.Nodes.{KeptNow, RunNodeNow, as_one, loose_at, made_by}
+use Rattle.m2_node.specs.Lists.{SideBySide, joined}
+use Rattle.m2_node.specs.Nodes.{KeptNow, RunNodeNow, as_one, loose_at, made_by}
 use Rattle.m2_run.specs.Once.{HasEachOnce}
-use Rattle.m2_run.specs.Ports.{IsPortOver}
+use Rattle.m2_node.specs.Ports.{IsPortOver}
 use Rattle.m2_run.specs.Types.{IsOfTypes}
-use Rattle.m2_run.specs.Way.{IsNodeOf}
+use Rattle.m2_node.specs.Way.{IsNodeOf}
 
 -- ---- halves that no record took
 

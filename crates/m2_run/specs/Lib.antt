@@ -1,31 +1,16 @@
-pub mod Begins
 pub mod Closing
 pub mod Cuts
-pub mod Dispatching
-pub mod Ends
 pub mod Gathering
-pub mod Handing
-pub mod Homes
 pub mod Joined
 pub mod Kept
 pub mod Listening
-pub mod Lists
-pub mod Nodes
 pub mod Once
 pub mod Opened
-pub mod Planned
-pub mod Ports
-pub mod Posts
 pub mod Ran
 pub mod Rests
-pub mod Rooms
 pub mod Settling
-pub mod Sharing
 pub mod Still
 pub mod Types
-pub mod Way
-pub mod WayLaws
 pub mod Weaving
-pub mod Working
-pub use Rattle.m2_links_go_on.specs as m2_links_go_on
-pub use Rattle.m2_mailbox.specs as m2_mailbox
+pub use Rattle.m2_node.specs.m2_links_go_on as m2_links_go_on
+pub use Rattle.m2_node.specs as m2_node

@@ -3,7 +3,7 @@
 use Rattle.std.specs.Prelude.{◌≡◌, ℕ, ◌+◌, List, [], ◌∷◌, ◌++◌, length, map, reverse, slice_get, sum_by, Option, Some}
 use Rattle.std.specs.List.{AllByRecursion, flat_map}
 use Rattle.std.specs.Option.{option_to_list}
-use Rattle.m2_script.specs.m2_center.Center.{CenterNow}
+use Rattle.m2_node.specs.m2_script.m2_center.Center.{CenterNow}
 use Rattle.m2_dispatch.specs.declared.logged.Logged.{Logged}
 use Rattle.m2_fabric.specs.Port.{SeenPort}
 use Rattle.m2_fabric.specs.declared.port.Cut.{Cut}
@@ -19,8 +19,8 @@ use Rattle.m2_handover.specs.m2_mailbox.declared.passes.PutPass.{PutPass}
 use Rattle.m2_trail.specs.Arrivals.{LooseNow}
 use Rattle.m2_trail.specs.declared.home.HomeOf.{HomeOf}
 use Rattle.m2_run.specs.Kept.{AreOpened}
-use Rattle.m2_run.specs.Lists.{SideBySide}
-use Rattle.m2_run.specs.Nodes.{KeptNow, RunNodeNow}
+use Rattle.m2_node.specs.Lists.{SideBySide}
+use Rattle.m2_node.specs.Nodes.{KeptNow, RunNodeNow}
 use Rattle.m2_run.specs.Once.{HasEachOnce}
 use Rattle.m2_run.specs.Rests.{EndedCenterNow, EndedNow, IsEndOfCenter}
 use Rattle.m2_run.specs.Still.{AllBelow}

@@ -8,15 +8,15 @@ use Rattle.m2_scenario.specs.Report.{AreLogsOf, heard_in}
 use Rattle.m2_scenario.specs.declared.line.Line.{Line}
 use Rattle.m2_scenario.specs.declared.link.Link.{Link}
 use Rattle.m2_scenario.specs.declared.node.Node.{Node}
-use Rattle.m2_links_go_on.specs.m2_history.declared.history.WeaveFault.{WeaveFault}
-use Rattle.m2_links_go_on.specs.m2_history.declared.history.WeaveFault.TheVariants as weaving
+use Rattle.m2_node.specs.m2_links_go_on.m2_history.declared.history.WeaveFault.{WeaveFault}
+use Rattle.m2_node.specs.m2_links_go_on.m2_history.declared.history.WeaveFault.TheVariants as weaving
 use Rattle.m2_weave.specs.declared.unfit.Unfit.{Unfit}
 use Rattle.m2_run.specs.Cuts.{cuts_at}
 use Rattle.m2_run.specs.Kept.{AllGathered, AreAllHeld, AreOpened, IsKeptRun, MadeIsHeld, last_in, left_of}
 use Rattle.m2_run.specs.Listening.{IsBindFault}
-use Rattle.m2_run.specs.Handing.{AreHeardAtEnd}
-use Rattle.m2_run.specs.Lists.{SideBySide}
-use Rattle.m2_run.specs.Nodes.{KeptNow, RunNodeNow, made_by, nodes_of}
+use Rattle.m2_node.specs.Handing.{AreHeardAtEnd}
+use Rattle.m2_node.specs.Lists.{SideBySide}
+use Rattle.m2_node.specs.Nodes.{KeptNow, RunNodeNow, made_by, nodes_of}
 use Rattle.m2_run.specs.Once.{HasEachOnce}
 use Rattle.m2_run.specs.Opened.{AllAreThere, AreOpenedNodes, OpenedNow}
 use Rattle.m2_run.specs.Rests.{AreEndsOf, EndedNow, Shown, loose_of, shown_of}

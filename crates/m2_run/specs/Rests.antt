@@ -1,14 +1,14 @@
 -- What is left of nodes that have ended. This project's own.
 use Rattle.std.specs.Prelude.{◌≡◌, ℕ, List, length, reverse, slice_get, Option, Some, None}
 use Rattle.std.specs.List.{flat_map}
-use Rattle.m2_script.specs.m2_center.Center.{CenterNow}
+use Rattle.m2_node.specs.m2_script.m2_center.Center.{CenterNow}
 use Rattle.m2_dispatch.specs.declared.logged.Logged.{Logged}
 use Rattle.m2_fabric.specs.Port.{SeenPort}
 use Rattle.m2_fabric.specs.declared.socket.SocketId.{SocketId}
-use Rattle.m2_record.specs.RecordNow.{RecordNow}
+use Rattle.m2_node.specs.m2_script.m2_record.RecordNow.{RecordNow}
 use Rattle.m2_trail.specs.Arrivals.{LooseNow}
-use Rattle.m2_run.specs.Nodes.{KeptNow, loose_at}
-use Rattle.m2_run.specs.Ports.{IsPortOver}
+use Rattle.m2_node.specs.Nodes.{KeptNow, loose_at}
+use Rattle.m2_node.specs.Ports.{IsPortOver}
 
 -- of an event thread: the port of the fabric inside its own, where its node was on; the sockets that its own made; its records; and what its
 -- dispatchers were called with: that of fast kinds, and the one behind the queue

@@ -8,11 +8,11 @@ use Rattle.m2_scenario.specs.declared.link.Link.{Link}
 use Rattle.m2_scenario.specs.declared.node.Node.{Node}
 use Rattle.m2_run.specs.Cuts.{cuts_at}
 use Rattle.m2_run.specs.Kept.{left_of}
-use Rattle.m2_run.specs.Nodes.{RunNodeNow}
+use Rattle.m2_node.specs.Nodes.{RunNodeNow}
 use Rattle.m2_run.specs.Opened.{AreOpenedNodes, OpenedNow}
 use Rattle.m2_run.specs.Ran.{HasStalled}
 use Rattle.m2_run.specs.Types.{IsCenterOfTypes}
-use Rattle.m2_run.specs.Way.{AllGoOn, AreNodesOf}
+use Rattle.m2_node.specs.Way.{AllGoOn, AreNodesOf}
 use Rattle.m2_run.specs.declared.settling.Settled.{Settled}
 
 -- the node at a place does so; all others are as they were

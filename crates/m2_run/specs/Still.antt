@@ -3,17 +3,17 @@ use Rattle.std.specs.Prelude.{◌≡◌, ◌≢◌, ◌⊎◌, ℕ, ◌==◌, �
 use Rattle.std.specs.List.{AllByRecursion, flat_map, range_with_len}
 use Rattle.std.specs.Option.{option_map}
 use Rattle.m2_addr.specs.declared.addr.Addr.{Addr}
-use Rattle.m2_script.specs.m2_center.Center.{CenterNow}
-use Rattle.m2_script.specs.m2_center.Idle.{is_idle}
+use Rattle.m2_node.specs.m2_script.m2_center.Center.{CenterNow}
+use Rattle.m2_node.specs.m2_script.m2_center.Idle.{is_idle}
 use Rattle.m2_dispatch.specs.declared.logged.Logged.{Logged}
 use Rattle.m2_fabric.specs.End.{SeenEnd}
 use Rattle.m2_fabric.specs.Log.{Log}
 use Rattle.m2_fabric.specs.Sockets.{goes_to, is_among}
 use Rattle.m2_fabric.specs.declared.socket.SocketId.{SocketId}
-use Rattle.m2_record.specs.Sources.{end_at}
+use Rattle.m2_node.specs.m2_script.m2_record.Sources.{end_at}
 use Rattle.m2_scenario.specs.declared.node.Node.{Node}
 use Rattle.m2_trail.specs.Arrivals.{LooseNow}
-use Rattle.m2_run.specs.Nodes.{KeptNow, RunNodeNow, ends_of_node, made_by, nodes_of}
+use Rattle.m2_node.specs.Nodes.{KeptNow, RunNodeNow, ends_of_node, made_by, nodes_of}
 
 -- ---- nodes by their places
 

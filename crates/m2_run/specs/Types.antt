@@ -1,16 +1,16 @@
 -- What the types of a node say of it. This project's own.
 use Rattle.std.specs.Prelude.{◌<◌, ◌^◌, List}
 use Rattle.std.specs.List.{AllByRecursion}
-use Rattle.m2_script.specs.m2_center.Center.{CenterNow, IsCenter}
+use Rattle.m2_node.specs.m2_script.m2_center.Center.{CenterNow, IsCenter}
 use Rattle.m2_dispatch.specs.declared.logged.Logged.{Logged}
 use Rattle.m2_journal.specs.SideFacts.{SideFacts}
 use Rattle.m2_journal.specs.m2_control.Laws.{HasAddrRanges}
-use Rattle.m2_links_go_on.specs.m2_history.Link.{IsWholeHalf}
-use Rattle.m2_links_go_on.specs.Left.{IsSeen}
-use Rattle.m2_record.specs.IsRecord.{IsRecord}
-use Rattle.m2_record.specs.RecordNow.{RecordNow}
+use Rattle.m2_node.specs.m2_links_go_on.m2_history.Link.{IsWholeHalf}
+use Rattle.m2_node.specs.m2_links_go_on.Left.{IsSeen}
+use Rattle.m2_node.specs.m2_script.m2_record.IsRecord.{IsRecord}
+use Rattle.m2_node.specs.m2_script.m2_record.RecordNow.{RecordNow}
 use Rattle.m2_trail.specs.Trails.{TrailNow, opener_of}
-use Rattle.m2_run.specs.Nodes.{KeptNow, loose_at}
+use Rattle.m2_node.specs.Nodes.{KeptNow, loose_at}
 
 -- What a node tells a record and the addresses of both nodes keep the ranges of their types. That its own address is one of msgr2, and
 -- its place one of those that cookies have, no type says.

@@ -1,15 +1,15 @@
 -- The links of nodes that have ended, woven. This project's own.
 use Rattle.std.specs.Prelude.{◌≡◌, ℕ, ◌==◌, ◌<◌, if◌then◌else◌, List, [], ◌∷◌, slice_get, Option, Some, None, Result, Ok, Err}
 use Rattle.std.specs.Option.{option_map}
-use Rattle.m2_links_go_on.specs.m2_history.Counted.{logs_of}
-use Rattle.m2_links_go_on.specs.m2_history.Link.{WeavesRecords, both_of}
-use Rattle.m2_links_go_on.specs.m2_history.Lossy.{IsInOrderIn}
-use Rattle.m2_links_go_on.specs.m2_history.Marked.{IsToAMarkIn}
-use Rattle.m2_links_go_on.specs.m2_history.WovenLaws.{IsDeliveredIn, IsUnreset, link_of}
-use Rattle.m2_links_go_on.specs.m2_history.declared.history.History.{History}
-use Rattle.m2_links_go_on.specs.m2_history.declared.history.WeaveFault.{WeaveFault}
-use Rattle.m2_links_go_on.specs.m2_history.declared.history.WeaveFault.TheVariants as fault
-use Rattle.m2_record.specs.RecordNow.{RecordNow}
+use Rattle.m2_node.specs.m2_links_go_on.m2_history.Counted.{logs_of}
+use Rattle.m2_node.specs.m2_links_go_on.m2_history.Link.{WeavesRecords, both_of}
+use Rattle.m2_node.specs.m2_links_go_on.m2_history.Lossy.{IsInOrderIn}
+use Rattle.m2_node.specs.m2_links_go_on.m2_history.Marked.{IsToAMarkIn}
+use Rattle.m2_node.specs.m2_links_go_on.m2_history.WovenLaws.{IsDeliveredIn, IsUnreset, link_of}
+use Rattle.m2_node.specs.m2_links_go_on.m2_history.declared.history.History.{History}
+use Rattle.m2_node.specs.m2_links_go_on.m2_history.declared.history.WeaveFault.{WeaveFault}
+use Rattle.m2_node.specs.m2_links_go_on.m2_history.declared.history.WeaveFault.TheVariants as fault
+use Rattle.m2_node.specs.m2_script.m2_record.RecordNow.{RecordNow}
 use Rattle.m2_scenario.specs.declared.link.Link.{Link}
 use Rattle.m2_weave.specs.declared.unfit.Unfit.{Unfit}
 use Rattle.m2_trail.specs.Arrivals.{LooseNow}

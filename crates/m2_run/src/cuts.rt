@@ -7,8 +7,8 @@ ghost use Rattle.m2_scenario.specs.declared.limits.TheConstants.{MOST_NODES};
 
 use m2_bytes::NoMemory;
 use m2_fabric::{Cut, CutEnd, CutList, End, SocketId};
+use m2_node::cuts_of;
 use m2_scenario::{Line, MOST_NODES, Node};
-use m2_script::cuts_of;
 use std::alloc::Global;
 
 /// The cuts of the sockets that each node opens, in the order of the nodes.

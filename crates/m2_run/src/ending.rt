@@ -8,35 +8,32 @@ ghost use Rattle.m2_handover.specs.Home.{shown};
 ghost use Rattle.m2_handover.specs.m2_mailbox.Passes.{IsPutPassOf, parts_of, puts_of};
 ghost use Rattle.m2_handover.specs.m2_mailbox.Views.{all_parts};
 ghost use Rattle.m2_handover.specs.m2_mailbox.declared.passes.PutPass.{PutPass};
-ghost use Rattle.m2_run.specs.Ports.{seen_port};
+ghost use Rattle.m2_node.specs.Ports.{seen_port};
 ghost use Rattle.m2_run.specs.Rests.{IsInside};
 ghost use Rattle.m2_trail.specs.declared.home.HomeOf.{HomeOf};
 ghost use Rattle.m2_run.specs.Cuts.{bound_of, cuts_at};
 ghost use Rattle.m2_run.specs.Kept.{IsOpenedAs};
 ghost use Rattle.m2_bytes.specs.Items.{Holding};
 ghost use Rattle.m2_dispatch.specs.declared.logged.Logged.{Logged};
-ghost use Rattle.m2_run.specs.Handing.{AddsLog, IsLogOf};
-ghost use Rattle.m2_run.specs.Lists.{SideBySide};
-ghost use Rattle.m2_run.specs.Nodes.{IsServedBy, RunNodeNow};
+ghost use Rattle.m2_node.specs.Handing.{AddsLog, IsLogOf};
+ghost use Rattle.m2_node.specs.Lists.{SideBySide};
+ghost use Rattle.m2_node.specs.Nodes.{IsServedBy, RunNodeNow};
 ghost use Rattle.m2_run.specs.Opened.{AreOpenedNodes, AreRightsTo, EndsCenter, EndsCenters, EndsNext, HasRoomsFor, IsOpenedNode, IsTakenApart, WeighsUp, ended_of, loose_in, untold};
-ghost use Rattle.m2_links_go_on.specs.Left.{IsSeen};
-ghost use Rattle.m2_links_go_on.specs.m2_history.Link.{IsWholeHalf};
+ghost use Rattle.m2_node.specs.m2_links_go_on.Left.{IsSeen};
+ghost use Rattle.m2_node.specs.m2_links_go_on.m2_history.Link.{IsWholeHalf};
 ghost use Rattle.m2_trail.specs.Arrivals.{LooseNow};
 ghost use Rattle.m2_run.specs.Types.{IsCenterOfTypes};
 
 use crate::cuts::open_end;
-use crate::dispatcher::NodeDispatcher;
-use crate::end::RunEnd;
-use crate::inboxes::Rights;
-use crate::node::{RunCenter, RunNode, clear_centers, clear_nodes, end_records};
-use crate::port::RunPort;
 use crate::ranges::{center_is_of_types, halves_are_of_types};
 use m2_bytes::{Items, NoMemory};
 use m2_dispatch::{Logged, LoggedList};
 use m2_fabric::{Cut, CutList, End, Port, SocketId, SocketIdList};
 use m2_handover::{GetPass, Handed, HandedEnd, HomePort, HomeRest, Inboxes, Way, half_inside};
-use m2_record::Record;
-use m2_script::{CenterRest, NodeShared, Passes};
+use m2_node::{
+    CenterRest, NodeDispatcher, NodeShared, Passes, Record, Rights, RunCenter, RunEnd, RunNode,
+    RunPort, clear_centers, clear_nodes, end_records,
+};
 use m2_shared::{TakePass, Throttle};
 use m2_trail::{Loose, LooseList};
 use std::alloc::Global;
@@ -63,7 +60,7 @@ impl<'s, P: Port> Model for EndedCenter<'s, P> {
     ghost use Rattle.std.specs.Prelude.{◌≡◌};
     ghost use Rattle.std.specs.Option.{option_map};
     ghost use Rattle.m2_run.specs.Rests.{EndedCenterNow};
-    ghost use Rattle.m2_script.specs.m2_center.Finishing.{AllOwn};
+    ghost use Rattle.m2_node.specs.m2_script.m2_center.Finishing.{AllOwn};
 
     ghost Value = { EndedCenterNow };
 

@@ -1,110 +1,19 @@
-//! The inboxes of all event threads, from before they begin until they have ended.
+//! The inboxes of all event threads, when these have ended.
 
-ghost use Rattle.std.specs.Prelude.{◌≡◌, ◌++◌, ◌∷◌, [], IfOk, OnOk, List, drop, length, reverse, slice_get};
+ghost use Rattle.std.specs.Prelude.{◌≡◌, ◌++◌, OnOk, drop, length, reverse, slice_get};
 ghost use Rattle.m2_handover.specs.m2_mailbox.Passes.{IsGetPassOf, IsPutPassOf, parts_of, puts_of, taken_of};
 ghost use Rattle.m2_handover.specs.m2_mailbox.Views.{all_parts};
 ghost use Rattle.m2_run.specs.Closing.{AreAllRightsTo, AreLeftOver, IsLeftOver};
 ghost use Rattle.m2_run.specs.Opened.{AllClosed, AreRightsTo, HasRoomsFor, IsClosed, WeighsUp};
-ghost use Rattle.m2_run.specs.Rooms.{AreRoomsOf, HomeAt, homes_from, homes_if, homes_of, thread_of};
 
 use crate::ending::Opened;
 use m2_bytes::NoMemory;
 use m2_fabric::{End, Port};
-use m2_handover::{GetPass, Handed, Inbox, MOST_ARRIVALS, PutPass, close_inbox};
-use m2_scenario::Node;
-use m2_trail::{HomeOf, Loose, LooseList};
+use m2_handover::{GetPass, Handed, Inbox, PutPass, close_inbox};
+use m2_node::{Rights, let_go};
+use m2_trail::{Loose, LooseList};
 use std::alloc::Global;
 use std::sync::Wait;
-use std::sync::atomic::AtomicBool;
-
-/// The rights to inboxes, in their order.
-#[derive(Drop)]
-pub(crate) struct Rights<E: End> {
-    pub(crate) puts: Vec<PutPass<Handed<E>>>,
-    pub(crate) gets: Vec<GetPass<Handed<E>>>,
-}
-
-/// An inbox for each event thread that is on, in the order of the nodes, with the rights to it; and for each a place where its
-/// port tells whether anything waits there. It can't be dropped, since an inbox can't.
-pub(crate) struct Rooms<E: End> {
-    pub(crate) inboxes: Vec<Inbox<Handed<E>>>,
-    pub(crate) rights: Rights<E>,
-    pub(crate) rests: Vec<AtomicBool>,
-}
-
-/// Empty inboxes for all threads of these nodes.
-pub(crate) fn rooms_of<E: End>(alloc: Global, nodes: &[Node]) -> Result<Rooms<E>, NoMemory>
-    ensures { IfOk result (λ rooms. AreRoomsOf (homes_of nodes.now) rooms.inboxes.items rooms.rights.puts.items rooms.rights.gets.items) }
-{
-    let mut rooms = Rooms {
-        inboxes: Vec::new(alloc),
-        rights: Rights {
-            puts: Vec::new(alloc),
-            gets: Vec::new(alloc),
-        },
-        rests: Vec::new(alloc),
-    };
-    'nodes: for node in nodes {
-        if let Err(NoMemory) = add_rooms_of(alloc, node, &mut rooms) {
-            let_rooms_go(rooms);
-            return Err(NoMemory);
-        }
-    }
-    Ok(rooms)
-}
-
-/// Those of a node go last, where it is on.
-fn add_rooms_of<E: End>(alloc: Global, node: &Node, rooms: &mut Rooms<E>) -> Result<(), NoMemory>
-    ensures { OnOk result ((homes : List HomeAt) → AreRoomsOf homes rooms.old.inboxes.items rooms.old.rights.puts.items rooms.old.rights.gets.items → AreRoomsOf (homes ++ homes_if node.now.started node.now.centers) rooms.new.inboxes.items rooms.new.rights.puts.items rooms.new.rights.gets.items) }
-{
-    if node.started {
-        return add_rooms(alloc, node.centers, rooms);
-    }
-    Ok(())
-}
-
-/// Those of so many threads do.
-fn add_rooms<E: End>(alloc: Global, centers: u32, rooms: &mut Rooms<E>) -> Result<(), NoMemory>
-    ensures { OnOk result ((homes : List HomeAt) → AreRoomsOf homes rooms.old.inboxes.items rooms.old.rights.puts.items rooms.old.rights.gets.items → AreRoomsOf (homes ++ homes_from 0 centers centers) rooms.new.inboxes.items rooms.new.rights.puts.items rooms.new.rights.gets.items) }
-{
-    'centers: for center in 0..centers {
-        add_room(alloc, HomeOf { center, centers }, rooms)?;
-    }
-    Ok(())
-}
-
-/// That of one does.
-fn add_room<E: End>(alloc: Global, home: HomeOf, rooms: &mut Rooms<E>) -> Result<(), NoMemory>
-    ensures { OnOk result ((homes : List HomeAt) → AreRoomsOf homes rooms.old.inboxes.items rooms.old.rights.puts.items rooms.old.rights.gets.items → AreRoomsOf (homes ++ thread_of home ∷ []) rooms.new.inboxes.items rooms.new.rights.puts.items rooms.new.rights.gets.items) }
-{
-    rooms.inboxes.reserve(1)?;
-    rooms.rights.puts.reserve(1)?;
-    rooms.rights.gets.reserve(1)?;
-    rooms.rests.push(AtomicBool::new(false))?;
-    let (inbox, put, get) = Inbox::new(alloc, MOST_ARRIVALS, &home)?;
-    rooms.inboxes.push_reserved(inbox);
-    rooms.rights.puts.push_reserved(put);
-    rooms.rights.gets.push_reserved(get);
-    Ok(())
-}
-
-/// Lets inboxes go, with what they hold.
-pub(crate) fn let_rooms_go<E: End>(rooms: Rooms<E>) {
-    let Rooms {
-        inboxes,
-        rights: _,
-        rests: _,
-    } = rooms;
-    let_go(inboxes);
-}
-
-/// The same of these.
-pub(crate) fn let_go<E: End>(mut inboxes: Vec<Inbox<Handed<E>>>) {
-    'inboxes: while let Some(inbox) = inboxes.pop() {
-        inbox.let_go();
-    }
-    inboxes.destroy_empty();
-}
 
 /// Closes all inboxes, when their threads have ended, and gives what is left in each to its node. Err is want of memory; they are
 /// closed, or let go, then too.

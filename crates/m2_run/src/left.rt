@@ -2,18 +2,17 @@
 
 ghost use Rattle.std.specs.Prelude.{◌≡◌, ◌++◌, IfOk, List, count_by, flat_map, sum_by};
 ghost use Rattle.std.specs.List.{list_any};
-ghost use Rattle.m2_script.specs.m2_center.Center.{CenterNow};
+ghost use Rattle.m2_node.specs.m2_script.m2_center.Center.{CenterNow};
 ghost use Rattle.m2_dispatch.specs.Heard.{heard_by, is_message_from};
 ghost use Rattle.m2_dispatch.specs.declared.logged.Logged.{Logged};
 ghost use Rattle.m2_run.specs.Kept.{ended_as_one, left_of};
-ghost use Rattle.m2_script.specs.Outcome.{is_down_at, is_up, left_from, left_over, messages_at, posts_at};
-ghost use Rattle.m2_script.specs.Ways.{is_down_to, posts_to};
+ghost use Rattle.m2_node.specs.m2_script.Outcome.{is_down_at, is_up, left_from, left_over, messages_at, posts_at};
+ghost use Rattle.m2_node.specs.m2_script.Ways.{is_down_to, posts_to};
 
-use crate::node::{RunCenter, RunNode};
 use m2_bytes::NoMemory;
 use m2_fabric::Port;
+use m2_node::{RunCenter, RunNode, is_down_towards, messages_of, posts_towards, sum};
 use m2_scenario::Link;
-use m2_script::{is_down_towards, messages_of, posts_towards, sum};
 
 /// How many posts, over the lossless links of which neither end was marked down, the dispatchers of these nodes weren't called
 /// with. Err: more than the greatest number.

@@ -16,10 +16,7 @@
 #![tactic(auto)]
 
 mod beginning;
-mod counting;
 mod cuts;
-mod dispatcher;
-mod end;
 mod ending;
 mod gathering;
 mod inboxes;
@@ -27,27 +24,15 @@ mod laws;
 mod left;
 mod lines;
 mod listening;
-mod mails;
-mod node;
 mod observing;
 mod once;
 mod outcome;
-mod planning;
-mod port;
-mod posts;
 mod ranges;
-mod records;
 mod resting;
 mod running;
-mod sending;
-mod serving;
 mod settling;
-mod sharing;
 mod still;
-mod threads;
-mod way_laws;
 mod weaving;
-mod worker;
 
 pub use ending::{Ended, EndedCenter, ThreadEnd};
 pub use laws::{

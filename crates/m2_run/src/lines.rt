@@ -2,7 +2,7 @@
 
 ghost use Rattle.std.specs.List.{All, AllByRecursion};
 ghost use Rattle.std.specs.Prelude.{◌<◌};
-ghost use Rattle.m2_links_go_on.specs.m2_growth.m2_bytes_fit.Posts.{IsOfTypes};
+ghost use Rattle.m2_node.specs.m2_links_go_on.m2_growth.m2_bytes_fit.Posts.{IsOfTypes};
 ghost use Rattle.m2_message.specs.HeaderText.{FieldsFit};
 ghost use Rattle.m2_run.specs.Joined.{PostsOfTypes};
 

@@ -2,8 +2,8 @@
 
 ghost use Rattle.std.specs.Prelude.{◌≡◌, IfOk, OnErr, OnOk, map};
 ghost use Rattle.std.specs.List.{AllByRecursion};
-ghost use Rattle.m2_links_go_on.specs.Left.{IsSeen};
-ghost use Rattle.m2_links_go_on.specs.m2_history.Link.{IsWholeHalf};
+ghost use Rattle.m2_node.specs.m2_links_go_on.Left.{IsSeen};
+ghost use Rattle.m2_node.specs.m2_links_go_on.m2_history.Link.{IsWholeHalf};
 ghost use Rattle.m2_run.specs.Opened.{ended_of, loose_in};
 ghost use Rattle.m2_run.specs.Rests.{Shown};
 

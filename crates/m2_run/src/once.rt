@@ -75,7 +75,7 @@ fn add_made<P: Port>(
 }
 
 /// Those of these halves go last, of which nothing was judged, and which go to this address.
-#[tactic(auto, using(crate::proofs::KeptOnce::sockets_more, crate::proofs::Places::all_more))]
+#[tactic(auto, using(crate::proofs::KeptOnce::sockets_more, m2_node::proofs::Places::all_more))]
 fn add_halves<E: End>(
     at: &Addr,
     halves: &[Loose<E>],

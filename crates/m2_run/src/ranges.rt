@@ -2,17 +2,16 @@
 
 ghost use Rattle.std.specs.List.{AllByRecursion};
 ghost use Rattle.std.specs.Prelude.{◌<◌, ◌^◌};
-ghost use Rattle.m2_links_go_on.specs.m2_history.Link.{IsWholeHalf};
+ghost use Rattle.m2_node.specs.m2_links_go_on.m2_history.Link.{IsWholeHalf};
 ghost use Rattle.m2_journal.specs.m2_control.Laws.{HasAddrRanges};
-ghost use Rattle.m2_links_go_on.specs.Left.{IsSeen};
+ghost use Rattle.m2_node.specs.m2_links_go_on.Left.{IsSeen};
 ghost use Rattle.m2_run.specs.Types.{HasOpenerRanges, IsCenterOfTypes, IsRanged};
 ghost use Rattle.m2_trail.specs.Trails.{opener_of, trail_now};
 
-use crate::node::RunCenter;
 use m2_addr::Addr;
 use m2_fabric::{End, Port, SocketId};
 use m2_journal::NodeFacts;
-use m2_record::Record;
+use m2_node::{Record, RunCenter};
 use m2_trail::{Loose, Trail};
 
 /// It is a center, and its records are records, which are named within the ranges of their types.

@@ -3,50 +3,48 @@
 ghost use Rattle.std.specs.Prelude.{◌≡◌, ◌<◌, ◌≤◌, ◌^◌, ◌⊎◌, IfErr, IfOk, List, [], ℕ, length, map, slice_get};
 ghost use Rattle.std.specs.Bool.{OnTrue};
 ghost use Rattle.std.specs.List.{AllByRecursion};
-ghost use Rattle.m2_run.specs.Begins.{AreDoorsOf};
+ghost use Rattle.m2_node.specs.Begins.{AreDoorsOf};
 ghost use Rattle.m2_run.specs.Cuts.{AreCutsOf, cuts_at};
-ghost use Rattle.m2_run.specs.Handing.{AreBoth, HasHandedNothing, IsLogOf};
+ghost use Rattle.m2_node.specs.Handing.{AreBoth, HasHandedNothing, IsLogOf};
 ghost use Rattle.m2_run.specs.Listening.{IsListeningFault};
-ghost use Rattle.m2_run.specs.Lists.{SideBySide};
-ghost use Rattle.m2_run.specs.Nodes.{RunNodeNow};
+ghost use Rattle.m2_node.specs.Lists.{SideBySide};
+ghost use Rattle.m2_node.specs.Nodes.{RunNodeNow};
 ghost use Rattle.m2_run.specs.Opened.{AreOpenedNodes, HasRoomsFor, OpenedNow, made_of_all};
 ghost use Rattle.m2_run.specs.Settling.{HasPlayed, HasStopped};
 ghost use Rattle.m2_run.specs.declared.outcome.RunFault.TheVariants as faults;
 ghost use Rattle.m2_run.specs.Ran.{AreLeftBy, EndsInFault, HasFinished, HasRan, IsFaultOf, ShowsEnd, ShowsFault, fault_told};
 ghost use Rattle.m2_run.specs.Rests.{shown_of};
-ghost use Rattle.m2_run.specs.Rooms.{AreRoomsOf, homes_of};
-ghost use Rattle.m2_run.specs.Sharing.{AreRights, AreSharesOf, IsShare};
+ghost use Rattle.m2_node.specs.Rooms.{AreRoomsOf, homes_of};
+ghost use Rattle.m2_node.specs.Sharing.{AreRights, AreSharesOf, IsShare};
 ghost use Rattle.m2_run.specs.Still.{IsAtRest};
 ghost use Rattle.m2_run.specs.Types.{IsCenterOfTypes};
-ghost use Rattle.m2_run.specs.Way.{AreOut, ArePortsOut};
-ghost use Rattle.m2_run.specs.Working.{AreWorkersOf, nodes_of_workers};
+ghost use Rattle.m2_node.specs.Way.{AreOut, ArePortsOut};
+ghost use Rattle.m2_node.specs.Working.{AreWorkersOf, nodes_of_workers};
 ghost use Rattle.m2_scenario.specs.Draft.{draft_line};
 ghost use Rattle.m2_scenario.specs.Valid.{IsSound};
 ghost use Rattle.m2_scenario.specs.declared.limits.TheConstants.{MOST_NODES};
 
-use crate::beginning::{Begun, Doors, begin};
-use crate::counting::posts_that_count;
+use crate::beginning::{Begun, begin};
 use crate::cuts::cuts_of_all;
 use crate::ending::{AllEnded, Opened, end_all, throw_away_opened};
 use crate::gathering::{both_logs, gather_all};
-use crate::inboxes::{Rooms, close_all, let_go, let_rooms_go, rooms_of};
-use crate::node::{RunNode, Shares, clear_nodes, clear_shares};
+use crate::inboxes::close_all;
 use crate::observing::{Observer, join_seen};
 use crate::once::each_once;
 use crate::outcome::{Outcome, RunFault};
-use crate::posts::work_out;
 use crate::resting::all_rest;
 use crate::settling::{Settled, settle};
-use crate::sharing::{FirstPasses, Shared, rights_of, shared_by};
-use crate::threads::{Joined, join_all};
 use crate::weaving::weave_all;
-use crate::worker::Signs;
 use m2_bytes::NoMemory;
 use m2_dispatch::{LogDispatcher, LoggedList};
 use m2_edge::{Clock, Gate, Words};
 use m2_fabric::{CutList, End, Fabric, Port};
 use m2_handover::{HomePort, InboxNames, Inboxes, LentInboxes};
-use m2_links_go_on::{WeaveFault, centers_run_their_course};
+use m2_node::{
+    Doors, FirstPasses, Joined, Rooms, RunNode, Shared, Shares, Signs, WeaveFault,
+    centers_run_their_course, clear_nodes, clear_shares, join_all, let_go, let_rooms_go,
+    posts_that_count, rights_of, rooms_of, shared_by, work_out,
+};
 use m2_scenario::{Line, LineList, Link, LogsList, Node};
 use m2_shared::TakePass;
 use std::alloc::Global;

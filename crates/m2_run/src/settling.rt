@@ -3,23 +3,20 @@
 ghost use Rattle.std.specs.Bool.{OnTrue};
 ghost use Rattle.std.specs.List.{list_any};
 ghost use Rattle.std.specs.Prelude.{◌≡◌, ◌<◌, ◌≤◌, ◌^◌, ◌⊎◌, IfOk, IfSome, OnOk, fold, length};
-ghost use Rattle.m2_links_go_on.specs.Course.{is_productive};
-ghost use Rattle.m2_run.specs.declared.end.RunEnd.{RunEnd};
+ghost use Rattle.m2_node.specs.m2_links_go_on.Course.{is_productive};
+ghost use Rattle.m2_node.specs.declared.end.RunEnd.{RunEnd};
 ghost use Rattle.m2_run.specs.Kept.{last_in, last_of, later_of, left_of};
 ghost use Rattle.m2_run.specs.Ran.{HasStalled};
 ghost use Rattle.m2_run.specs.Settling.{HaveGoneOn, IsSettled, OneNodeDoes};
-ghost use Rattle.m2_run.specs.Way.{AllGoOn, AllPoll, AllTurn, NodePollsSo, NodeTurnsSo};
+ghost use Rattle.m2_node.specs.Way.{AllGoOn, AllPoll, AllTurn, NodePollsSo, NodeTurnsSo};
 
-use crate::end::RunEnd;
 use crate::left::left_at;
-use crate::node::{RunCenter, RunNode};
 use crate::still::are_still;
-use crate::way_laws::{polls_go_on, turns_go_on, waiting_goes_on};
 use m2_bytes::NoMemory;
 use m2_edge::{Clock, next_moment};
 use m2_fabric::{End, Port};
 use m2_journal::Entry;
-use m2_record::Record;
+use m2_node::{Record, RunCenter, RunEnd, RunNode, polls_go_on, turns_go_on, waiting_goes_on};
 use m2_scenario::{Link, Node};
 use std::alloc::Global;
 use std::sync::Wait;

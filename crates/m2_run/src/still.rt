@@ -4,14 +4,14 @@ ghost use Rattle.std.specs.List.{AllByRecursion, flat_map};
 ghost use Rattle.std.specs.Prelude.{◌≡◌, ◌≢◌, ◌+◌, ◌<◌, false, true, List, count_by, length, IfSome};
 ghost use Rattle.std.specs.Bool.{OnTrue};
 ghost use Rattle.std.specs.Option.{option_map};
-ghost use Rattle.m2_script.specs.m2_center.Center.{CenterNow};
-ghost use Rattle.m2_script.specs.m2_center.Idle.{is_idle};
+ghost use Rattle.m2_node.specs.m2_script.m2_center.Center.{CenterNow};
+ghost use Rattle.m2_node.specs.m2_script.m2_center.Idle.{is_idle};
 ghost use Rattle.m2_dispatch.specs.declared.logged.Logged.{Logged};
 ghost use Rattle.m2_fabric.specs.Log.{log_of};
 ghost use Rattle.m2_run.specs.Still.{AllBelow, AreMetOf, AreStill, IsFoundAt, IsIdleAt, IsMet, IsMetAt, IsMetFrom, is_missing, is_missing_to, is_on, missing_from, missing_in, refused_by};
 
-use crate::node::{RunCenter, RunNode};
 use m2_fabric::{EndLog, Port, SocketId};
+use m2_node::{RunCenter, RunNode};
 use m2_scenario::Node;
 
 /// Whether these nodes are still at this moment: each that is on is idle, and each socket that one of them opened to

@@ -6,8 +6,7 @@ ghost use Rattle.m2_run.specs.Weaving.{WeavesAll, WeavesLink, side_towards, towa
 
 use crate::ending::{Ended, EndedCenter, ThreadEnd};
 use m2_fabric::{End, Port};
-use m2_links_go_on::{Side, WeaveFault, are_of_link, weave};
-use m2_record::Record;
+use m2_node::{Record, Side, WeaveFault, are_of_link, weave};
 use m2_scenario::Link;
 use m2_trail::LooseList;
 use std::alloc::Global;

@@ -1,9 +1,9 @@
 -- The nodes are made as the scenario says, and have done nothing; no listen had a fault.
 use Rattle.std.proofs.Common.{◌∙◌}
-use Rattle.m2_run.specs.Planned.{steps_in}
-use Rattle.m2_run.proofs.HandedOn.{nothing_handed}
-use Rattle.m2_run.proofs.NodesBegin.{nodes_begin}
-use Rattle.m2_run.proofs.OutPorts.{out_behind_listens}
+use Rattle.m2_node.specs.Planned.{steps_in}
+use Rattle.m2_node.proofs.HandedOn.{nothing_handed}
+use Rattle.m2_node.proofs.NodesBegin.{nodes_begin}
+use Rattle.m2_run.proofs.Listens.{out_behind_listens}
 use Rattle.m2_run.proofs.beginning.begin.Goals as goal
 
 pub returns-in-Ok-clause-nodes : goal.returns-in-Ok-clause-nodes

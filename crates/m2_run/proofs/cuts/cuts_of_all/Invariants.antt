@@ -1,7 +1,7 @@
 -- The nodes so far have theirs.
 use Rattle.std.proofs.Common.{◌≡◌, ℕ, ◌<◌, length}
 use Rattle.m2_run.specs.Cuts.{cuts_at}
-use Rattle.m2_script.specs.Nodes.{cuts_of}
+use Rattle.m2_node.specs.m2_script.Nodes.{cuts_of}
 use Rattle.m2_run.proofs.cuts.cuts_of_all.Given as goal
 
 abbrev pub invariant-nodes : goal.invariant-nodes

@@ -1,7 +1,7 @@
 -- What is left of it, its halves, and the parts of its port.
 use Rattle.std.specs.Prelude.{slice_get}
 use Rattle.std.proofs.Common.{◌∙◌, refl, subst, sym}
-use Rattle.m2_script.specs.m2_center.Finishing.{IsGranted}
+use Rattle.m2_node.specs.m2_script.m2_center.Finishing.{IsGranted}
 use Rattle.m2_run.proofs.Apart.{center_ended}
 use Rattle.m2_run.proofs.ending.end_center.Goals as goal
 

@@ -2,8 +2,8 @@
 use Rattle.std.proofs.Common.{rules, ◌≡◌, ◌∙◌, ◌+◌, ◌≤◌, List, [], ◌∷◌, ap, arith, length, length-append, subst, sym}
 use Rattle.std.specs.Prelude.{slice_get, vec_capacity, vec_len}
 use Rattle.std.specs.List.{AllByRecursion}
-use Rattle.m2_script.proofs.m2_center.Granted.{before_last}
-use Rattle.m2_run.specs.Nodes.{IsServedBy}
+use Rattle.m2_node.proofs.m2_script.m2_center.Granted.{before_last}
+use Rattle.m2_node.specs.Nodes.{IsServedBy}
 use Rattle.m2_run.specs.Opened.{OpenedNow}
 use Rattle.m2_run.specs.Rests.{EndedCenterNow}
 use Rattle.m2_run.proofs.Lasts.{all_ended_of, none_ended_of, one_ended_of, room_turned, so_on_ok}

@@ -2,7 +2,7 @@
 use Rattle.std.proofs.Common.{◌-◌, ◌≤◌, length}
 use Rattle.std.specs.Prelude.{slice_get, vec_capacity, vec_len}
 use Rattle.std.specs.List.{AllByRecursion}
-use Rattle.m2_run.specs.Nodes.{IsServedBy}
+use Rattle.m2_node.specs.Nodes.{IsServedBy}
 use Rattle.m2_run.proofs.Lasts.{AreEndedOf}
 use Rattle.m2_run.proofs.ending.end_centers.Given as goal
 

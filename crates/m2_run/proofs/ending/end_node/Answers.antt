@@ -2,12 +2,12 @@
 use Rattle.std.specs.Prelude.{slice_get}
 use Rattle.std.proofs.Common.{List, ap, subst, sym}
 use Rattle.std.specs.List.{AllByRecursion}
-use Rattle.m2_script.specs.m2_center.Center.{CenterNow}
+use Rattle.m2_node.specs.m2_script.m2_center.Center.{CenterNow}
 use Rattle.m2_dispatch.specs.declared.logged.Logged.{Logged}
 use Rattle.m2_dispatch.specs.Heard.{heard_by}
-use Rattle.m2_run.specs.Handing.{AreHanded}
+use Rattle.m2_node.specs.Handing.{AreHanded}
 use Rattle.m2_run.specs.Kept.{AreOpened}
-use Rattle.m2_run.specs.Lists.{SideBySide}
+use Rattle.m2_node.specs.Lists.{SideBySide}
 use Rattle.m2_run.specs.Opened.{OpenedNow}
 use Rattle.m2_run.specs.Rests.{IsEndOfCenter}
 use Rattle.m2_run.specs.Types.{IsCenterOfTypes}

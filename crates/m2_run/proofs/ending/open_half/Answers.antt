@@ -7,7 +7,7 @@ use Rattle.m2_handover.proofs.Shown.{whole_inside}
 use Rattle.m2_trail.specs.Arrivals.{LooseNow}
 use Rattle.m2_trail.specs.Trails.{IsWholeTrail, TrailNow}
 use Rattle.m2_run.specs.Cuts.{IsEndOver, bound_of}
-use Rattle.m2_run.specs.Ends.{seen_end}
+use Rattle.m2_node.specs.Ends.{seen_end}
 use Rattle.m2_run.specs.Kept.{IsOpenedAs}
 use Rattle.m2_run.proofs.Giving.{ok_so}
 use Rattle.m2_run.proofs.ending.open_half.Goals as goal

@@ -2,7 +2,7 @@
 use Rattle.std.proofs.Common.{◌∙◌, subst, sym}
 use Rattle.m2_run.specs.Cuts.{bound_of}
 use Rattle.m2_run.specs.Kept.{IsOpenedAs}
-use Rattle.m2_run.specs.Lists.{SideBySide}
+use Rattle.m2_node.specs.Lists.{SideBySide}
 use Rattle.m2_run.proofs.Apart.{no_half_left, one_half_more}
 use Rattle.m2_run.proofs.ending.open_halves.Goals as goal
 

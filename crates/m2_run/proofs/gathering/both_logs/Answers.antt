@@ -3,7 +3,7 @@ use Rattle.std.proofs.Common.{◌≡◌, ◌∙◌, List, [], ap, append-nil, su
 use Rattle.std.proofs.lemmas.List.{nil_from_length}
 use Rattle.m2_bytes.specs.Items.{Holding}
 use Rattle.m2_dispatch.specs.declared.logged.Logged.{Logged}
-use Rattle.m2_run.specs.Handing.{AreBoth}
+use Rattle.m2_node.specs.Handing.{AreBoth}
 use Rattle.m2_run.proofs.gathering.both_logs.Goals as goal
 
 pub returns-in-None-next : goal.returns-in-None-next

@@ -2,7 +2,7 @@
 use Rattle.std.proofs.Common.{List, ◌++◌}
 use Rattle.m2_bytes.specs.Items.{Holding}
 use Rattle.m2_dispatch.specs.declared.logged.Logged.{Logged}
-use Rattle.m2_run.specs.Handing.{AreBoth}
+use Rattle.m2_node.specs.Handing.{AreBoth}
 use Rattle.m2_run.proofs.gathering.both_logs.Given as goal
 
 abbrev pub invariant-nodes : goal.invariant-nodes

@@ -1,6 +1,6 @@
 -- One end more, and at the end all.
 use Rattle.std.proofs.Common.{map, subst, sym, ◌∙◌}
-use Rattle.m2_run.specs.Ends.{seen_end}
+use Rattle.m2_node.specs.Ends.{seen_end}
 use Rattle.m2_run.specs.Gathering.{Opens}
 use Rattle.m2_run.proofs.Giving.{one_end, opened}
 use Rattle.m2_run.proofs.gathering.give_ends.Goals as goal

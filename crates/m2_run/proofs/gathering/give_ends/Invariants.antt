@@ -1,7 +1,7 @@
 -- Whatever puts the ends that are left last, behind those so far, puts all of them last.
 use Rattle.std.proofs.Common.{List, map}
 use Rattle.m2_fabric.specs.End.{SeenEnd}
-use Rattle.m2_run.specs.Ends.{seen_end}
+use Rattle.m2_node.specs.Ends.{seen_end}
 use Rattle.m2_run.specs.Gathering.{Opens}
 use Rattle.m2_run.proofs.gathering.give_ends.Given as goal
 

@@ -1,7 +1,7 @@
 -- One half more, and at the end all.
 use Rattle.std.proofs.Common.{◌≡◌, ◌+◌, ◌-◌, ◌∙◌, suc, map, sym, ap, arith}
-use Rattle.m2_run.specs.Ends.{seen_end}
-use Rattle.m2_script.proofs.Moving.{left_fewer}
+use Rattle.m2_node.specs.Ends.{seen_end}
+use Rattle.m2_node.proofs.m2_script.Moving.{left_fewer}
 use Rattle.m2_run.proofs.Giving.{first_none, none_of, one_half}
 use Rattle.m2_run.proofs.gathering.give_halves.Goals as goal
 

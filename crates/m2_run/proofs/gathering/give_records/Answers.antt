@@ -1,8 +1,8 @@
 -- The ends of one record more, the last one of those that are left, which were turned round.
 use Rattle.std.proofs.Common.{rules, ◌≡◌, [], map, refl, sym, subst, ◌∙◌}
-use Rattle.m2_record.specs.Calls.{Owns}
-use Rattle.m2_script.specs.m2_center.Finishing.{AllOwn}
-use Rattle.m2_script.proofs.m2_center.Granted.{before_last}
+use Rattle.m2_node.specs.m2_script.m2_record.Calls.{Owns}
+use Rattle.m2_node.specs.m2_script.m2_center.Finishing.{AllOwn}
+use Rattle.m2_node.proofs.m2_script.m2_center.Granted.{before_last}
 use Rattle.m2_run.proofs.Giving.{none_given, none_left, one_record}
 use Rattle.m2_run.proofs.gathering.give_records.Goals as goal
 use Rattle.m2_bytes.proofs.m2_lemmas.Lists.{all_reverse}

@@ -3,7 +3,7 @@
 use Rattle.std.proofs.Common.{◌≡◌, List, length, map, reverse}
 use Rattle.std.specs.Prelude.{OnOk}
 use Rattle.std.specs.List.{flat_map}
-use Rattle.m2_script.specs.m2_center.Finishing.{AllOwn}
+use Rattle.m2_node.specs.m2_script.m2_center.Finishing.{AllOwn}
 use Rattle.m2_fabric.specs.End.{SeenEnd}
 use Rattle.m2_run.specs.Gathering.{Opens}
 use Rattle.m2_run.specs.Kept.{ends_of_record}

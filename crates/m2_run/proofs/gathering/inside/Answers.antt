@@ -4,7 +4,7 @@ use Rattle.std.specs.Prelude.{IfOk}
 use Rattle.m2_fabric.specs.CutEnd as cut
 use Rattle.m2_handover.specs.End.{shown, told_nothing}
 use Rattle.m2_run.specs.Cuts.{IsEndOver, bound_of}
-use Rattle.m2_run.specs.Ends.{RunEndNow, seen_end}
+use Rattle.m2_node.specs.Ends.{RunEndNow, seen_end}
 use Rattle.m2_run.proofs.Giving.{ok_so, over_inner}
 use Rattle.m2_run.proofs.gathering.inside.Goals as goal
 

@@ -3,7 +3,7 @@ use Rattle.std.proofs.Common.{reverse, refl, ap, sym, subst}
 use Rattle.m2_run.specs.Closing.{AreAllRightsTo, AreLeftOver}
 use Rattle.m2_run.specs.Opened.{LeftNow, OpenedNow}
 use Rattle.m2_run.proofs.Closes.{closed_over, rights_of_node}
-use Rattle.m2_run.proofs.StepLists.{on_ok_so}
+use Rattle.m2_node.proofs.StepLists.{on_ok_so}
 use Rattle.m2_run.proofs.inboxes.close_node.Goals as goal
 
 pub close_some-requires : goal.close_some-requires

@@ -1,7 +1,7 @@
 -- What is left in it goes last.
 use Rattle.m2_handover.specs.m2_mailbox.Passes.{puts_of, taken_of}
 use Rattle.m2_run.proofs.Closes.{left_over}
-use Rattle.m2_run.proofs.StepLists.{on_ok_so}
+use Rattle.m2_node.proofs.StepLists.{on_ok_so}
 use Rattle.m2_run.proofs.inboxes.close_one.Goals as goal
 
 pub returns : goal.returns

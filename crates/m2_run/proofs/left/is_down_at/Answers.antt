@@ -2,8 +2,8 @@
 use Rattle.std.proofs.Common.{length, refl, ap, ◌∙◌}
 use Rattle.std.specs.List.{list_any}
 use Rattle.std.proofs.lemmas.Option.{slice_get_read}
-use Rattle.m2_script.specs.Outcome.{records_at}
-use Rattle.m2_script.specs.Ways.{is_down_to}
+use Rattle.m2_node.specs.m2_script.Outcome.{records_at}
+use Rattle.m2_node.specs.m2_script.Ways.{is_down_to}
 use Rattle.m2_run.proofs.Leaves.{at_node, at_none, records_over}
 use Rattle.m2_run.proofs.left.is_down_at.Goals as goal
 

@@ -1,9 +1,9 @@
 -- One center more has none that was marked down.
 use Rattle.std.proofs.Common.{List, ap, sym, ◌∙◌}
 use Rattle.std.specs.List.{list_any}
-use Rattle.m2_script.specs.m2_center.Center.{CenterNow}
+use Rattle.m2_node.specs.m2_script.m2_center.Center.{CenterNow}
 use Rattle.m2_dispatch.specs.declared.logged.Logged.{Logged}
-use Rattle.m2_script.specs.Ways.{is_down_to}
+use Rattle.m2_node.specs.m2_script.Ways.{is_down_to}
 use Rattle.m2_run.proofs.Leaves.{any_found, any_more, none_given, records_over}
 use Rattle.m2_run.proofs.left.is_down_in.Goals as goal
 

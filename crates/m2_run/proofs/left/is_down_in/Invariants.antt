@@ -1,9 +1,9 @@
 -- None of those so far is one.
 use Rattle.std.proofs.Common.{◌≡◌, List, drop}
 use Rattle.std.specs.List.{flat_map, list_any}
-use Rattle.m2_script.specs.m2_center.Center.{CenterNow}
+use Rattle.m2_node.specs.m2_script.m2_center.Center.{CenterNow}
 use Rattle.m2_dispatch.specs.declared.logged.Logged.{Logged}
-use Rattle.m2_script.specs.Ways.{is_down_to}
+use Rattle.m2_node.specs.m2_script.Ways.{is_down_to}
 use Rattle.m2_run.proofs.left.is_down_in.Given as goal
 
 abbrev pub invariant-centers : goal.invariant-centers

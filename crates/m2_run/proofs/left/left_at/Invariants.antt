@@ -2,7 +2,7 @@
 use Rattle.std.proofs.Common.{◌≡◌, ◌+◌, drop, sum_by}
 use Rattle.m2_dispatch.specs.Heard.{heard_by}
 use Rattle.m2_run.specs.Kept.{ended_as_one}
-use Rattle.m2_script.specs.Outcome.{left_over}
+use Rattle.m2_node.specs.m2_script.Outcome.{left_over}
 use Rattle.m2_run.proofs.left.left_at.Given as goal
 
 abbrev pub invariant-links : goal.invariant-links

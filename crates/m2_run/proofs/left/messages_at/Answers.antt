@@ -3,7 +3,7 @@ use Rattle.std.proofs.Common.{◌++◌, [], length, refl, ap, ◌∙◌}
 use Rattle.std.proofs.lemmas.Option.{slice_get_read}
 use Rattle.std.proofs.lemmas.Result.{IfOk-weaker}
 use Rattle.m2_dispatch.specs.Heard.{heard_by}
-use Rattle.m2_script.specs.Outcome.{heard_of_node}
+use Rattle.m2_node.specs.m2_script.Outcome.{heard_of_node}
 use Rattle.m2_run.proofs.Leaves.{at_node, at_none, fast_over, messages, queued_over}
 use Rattle.m2_run.proofs.left.messages_at.Goals as goal
 

@@ -2,8 +2,8 @@
 use Rattle.std.proofs.Common.{length, refl, ap, ◌∙◌, sum_by}
 use Rattle.std.proofs.lemmas.Option.{slice_get_read}
 use Rattle.std.proofs.lemmas.Result.{IfOk-weaker}
-use Rattle.m2_script.specs.Outcome.{records_at}
-use Rattle.m2_script.specs.Ways.{posts_to}
+use Rattle.m2_node.specs.m2_script.Outcome.{records_at}
+use Rattle.m2_node.specs.m2_script.Ways.{posts_to}
 use Rattle.m2_run.proofs.Leaves.{at_node, at_none, records_over}
 use Rattle.m2_run.proofs.left.posts_at.Goals as goal
 

@@ -1,9 +1,9 @@
 -- The posts of one center more.
 use Rattle.std.proofs.Common.{List, refl, ap, ◌∙◌, sum_by}
 use Rattle.std.proofs.lemmas.List.Sums.{sum_by-append}
-use Rattle.m2_script.specs.m2_center.Center.{CenterNow}
+use Rattle.m2_node.specs.m2_script.m2_center.Center.{CenterNow}
 use Rattle.m2_dispatch.specs.declared.logged.Logged.{Logged}
-use Rattle.m2_script.specs.Ways.{posts_to}
+use Rattle.m2_node.specs.m2_script.Ways.{posts_to}
 use Rattle.m2_run.proofs.Leaves.{counted_all, counted_more, records_over}
 use Rattle.m2_run.proofs.left.posts_in.Goals as goal
 

@@ -1,6 +1,6 @@
 -- The messages of one center more.
 use Rattle.std.proofs.Common.{List, refl, ap, ◌∙◌}
-use Rattle.m2_script.specs.m2_center.Center.{CenterNow}
+use Rattle.m2_node.specs.m2_script.m2_center.Center.{CenterNow}
 use Rattle.m2_dispatch.specs.Heard.{heard_by}
 use Rattle.m2_dispatch.specs.declared.logged.Logged.{Logged}
 use Rattle.m2_run.proofs.Leaves.{counted_all, counted_more, queued_over, messages, messages_both}

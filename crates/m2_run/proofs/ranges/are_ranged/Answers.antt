@@ -1,6 +1,6 @@
 -- One record more.
 use Rattle.m2_run.specs.Types.{IsRanged}
-use Rattle.m2_run.proofs.Places.{all_more}
+use Rattle.m2_node.proofs.Places.{all_more}
 use Rattle.m2_run.proofs.ranges.are_ranged.Goals as goal
 
 pub records-preserved : goal.records-preserved

@@ -1,7 +1,7 @@
 -- One half more.
-use Rattle.m2_links_go_on.specs.m2_history.Link.{IsWholeHalf}
-use Rattle.m2_links_go_on.specs.Left.{IsSeen}
-use Rattle.m2_run.proofs.Places.{all_more}
+use Rattle.m2_node.specs.m2_links_go_on.m2_history.Link.{IsWholeHalf}
+use Rattle.m2_node.specs.m2_links_go_on.Left.{IsSeen}
+use Rattle.m2_node.proofs.Places.{all_more}
 use Rattle.m2_run.proofs.ranges.halves_are_of_types.Goals as goal
 
 pub halves-preserved : goal.halves-preserved

@@ -4,9 +4,9 @@ use Rattle.std.specs.List.{AllByRecursion}
 use Rattle.std.proofs.lemmas.Bool.{OnTrue_at}
 use Rattle.std.proofs.lemmas.Result.{IfErr-weaker, IfOk-weaker}
 use Rattle.m2_run.specs.Cuts.{cuts_at}
-use Rattle.m2_run.specs.Handing.{IsLogOf}
-use Rattle.m2_run.specs.Lists.{SideBySide}
-use Rattle.m2_run.specs.Nodes.{RunNodeNow, nodes_of}
+use Rattle.m2_node.specs.Handing.{IsLogOf}
+use Rattle.m2_node.specs.Lists.{SideBySide}
+use Rattle.m2_node.specs.Nodes.{RunNodeNow, nodes_of}
 use Rattle.m2_run.proofs.Told.{both_heard}
 use Rattle.m2_run.specs.Opened.{HaveEachOnce, OpenedNow, all_kept, made_of_all}
 use Rattle.m2_run.specs.Ran.{EndsInFault, ShowsEnd}

@@ -1,11 +1,12 @@
 -- The workers have gone on to the latest moment, and their nodes from there.
 use Rattle.std.proofs.Common.{◌≡◌, List, length, sym, ap, subst, ◌∙◌}
-use Rattle.m2_run.specs.Nodes.{RunNodeNow}
+use Rattle.m2_node.specs.Nodes.{RunNodeNow}
 use Rattle.m2_run.specs.Settling.{HasPlayed}
-use Rattle.m2_run.specs.Way.{AllGoOn}
-use Rattle.m2_run.specs.Working.{nodes_of_workers}
-use Rattle.m2_run.proofs.Goings.{as_many_nodes, have_played, now_given, stay_grouped}
-use Rattle.m2_run.proofs.Workers.{lent_back}
+use Rattle.m2_node.specs.Way.{AllGoOn}
+use Rattle.m2_node.specs.Working.{nodes_of_workers}
+use Rattle.m2_node.proofs.Goings.{as_many_nodes, now_given, stay_grouped}
+use Rattle.m2_run.proofs.Played.{have_played}
+use Rattle.m2_node.proofs.Workers.{lent_back}
 use Rattle.m2_run.proofs.running.play.Goals as goal
 
 pub join_all-requires-clause-groups : goal.join_all-requires-clause-groups

@@ -1,6 +1,6 @@
 -- The nodes have played, and are ended.
 use Rattle.std.proofs.Common.{sym, ◌∙◌}
-use Rattle.m2_run.proofs.Goings.{as_many_nodes}
+use Rattle.m2_node.proofs.Goings.{as_many_nodes}
 use Rattle.m2_run.proofs.running.play_out.Goals as goal
 
 pub end_all-requires-clause-cuts : goal.end_all-requires-clause-cuts

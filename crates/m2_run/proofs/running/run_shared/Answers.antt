@@ -2,12 +2,12 @@
 use Rattle.std.proofs.Common.{◌≡◌, List, length, sym, ap, subst, ◌∙◌}
 use Rattle.std.specs.Prelude.{slice_get}
 use Rattle.std.proofs.lemmas.Result.{IfErr-weaker, IfOk-weaker}
-use Rattle.m2_run.specs.Begins.{AreDoorsOf}
+use Rattle.m2_node.specs.Begins.{AreDoorsOf}
 use Rattle.m2_run.specs.Opened.{AllClosed, HasRoomsFor, OpenedNow}
 use Rattle.m2_run.specs.Ran.{AreLeftBy}
-use Rattle.m2_run.specs.Rooms.{homes_of}
+use Rattle.m2_node.specs.Rooms.{homes_of}
 use Rattle.m2_run.proofs.Runs.{are_left, has_faulted, has_ran, rooms_named, shows_fault}
-use Rattle.m2_run.proofs.Workers.{lent_back}
+use Rattle.m2_node.proofs.Workers.{lent_back}
 use Rattle.m2_run.proofs.running.run_shared.Goals as goal
 
 pub run_threads-played-requires-clause-doors : goal.run_threads-played-requires-clause-doors

@@ -2,10 +2,10 @@
 use Rattle.std.proofs.Common.{sym, subst}
 use Rattle.std.proofs.lemmas.Result.{IfErr-weaker, IfOk-weaker}
 use Rattle.m2_run.specs.Listening.{IsListeningFault}
-use Rattle.m2_run.specs.Working.{nodes_of_workers}
+use Rattle.m2_node.specs.Working.{nodes_of_workers}
 use Rattle.m2_run.specs.declared.outcome.RunFault.{RunFault}
 use Rattle.m2_run.proofs.Runs.{has_stopped}
-use Rattle.m2_run.proofs.StepLists.{ok_always}
+use Rattle.m2_node.proofs.StepLists.{ok_always}
 use Rattle.m2_run.proofs.running.run_threads.Goals as goal
 
 pub returns-clause-stopped : goal.returns-clause-stopped

@@ -1,7 +1,7 @@
 -- One node more.
 use Rattle.std.proofs.Common.{ap, ◌∙◌}
 use Rattle.m2_run.specs.Kept.{last_of}
-use Rattle.m2_run.specs.Nodes.{RunNodeNow}
+use Rattle.m2_node.specs.Nodes.{RunNodeNow}
 use Rattle.m2_run.proofs.Settled.{one_further}
 use Rattle.m2_run.proofs.settling.last_in.Goals as goal
 

@@ -1,8 +1,8 @@
 -- One node more has waited, or is off.
 use Rattle.std.proofs.Common.{◌+◌, List, ap, length, refl, subst, sym, ◌∙◌}
 use Rattle.std.proofs.lemmas.Option.{slice_get_read}
-use Rattle.m2_run.specs.Nodes.{RunNodeNow}
-use Rattle.m2_run.specs.Way.{NodePollsSo}
+use Rattle.m2_node.specs.Nodes.{RunNodeNow}
+use Rattle.m2_node.specs.Way.{NodePollsSo}
 use Rattle.m2_scenario.specs.declared.node.Node.{Node}
 use Rattle.m2_run.proofs.Rounds.{HaveDone, all_polled, one_did, one_is_off}
 use Rattle.m2_run.proofs.settling.rest.Goals as goal

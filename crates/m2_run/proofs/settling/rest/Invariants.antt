@@ -1,5 +1,5 @@
 -- Of the nodes so far each that is on has waited.
-use Rattle.m2_run.specs.Way.{NodePollsSo}
+use Rattle.m2_node.specs.Way.{NodePollsSo}
 use Rattle.m2_run.proofs.Rounds.{HaveDone}
 use Rattle.m2_run.proofs.settling.rest.Given as goal
 

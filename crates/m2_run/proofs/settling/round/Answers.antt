@@ -1,9 +1,9 @@
 -- One node more has taken its turn, or is off.
 use Rattle.std.proofs.Common.{◌+◌, List, ap, length, refl, subst, sym, ◌∙◌}
 use Rattle.std.proofs.lemmas.Option.{slice_get_read}
-use Rattle.m2_run.specs.Nodes.{RunNodeNow}
-use Rattle.m2_run.specs.declared.end.RunEnd.{RunEnd}
-use Rattle.m2_run.specs.Way.{NodeTurnsSo}
+use Rattle.m2_node.specs.Nodes.{RunNodeNow}
+use Rattle.m2_node.specs.declared.end.RunEnd.{RunEnd}
+use Rattle.m2_node.specs.Way.{NodeTurnsSo}
 use Rattle.m2_scenario.specs.declared.node.Node.{Node}
 use Rattle.m2_run.proofs.Rounds.{HaveDone, all_turned, one_did, one_is_off}
 use Rattle.m2_run.proofs.settling.round.Goals as goal

@@ -1,6 +1,6 @@
 -- Of the nodes so far each that is on has taken its turn.
-use Rattle.m2_run.specs.declared.end.RunEnd.{RunEnd}
-use Rattle.m2_run.specs.Way.{NodeTurnsSo}
+use Rattle.m2_node.specs.declared.end.RunEnd.{RunEnd}
+use Rattle.m2_node.specs.Way.{NodeTurnsSo}
 use Rattle.m2_run.proofs.Rounds.{HaveDone}
 use Rattle.m2_run.proofs.settling.round.Given as goal
 

@@ -1,9 +1,9 @@
 -- One center more is idle.
 use Rattle.std.proofs.Common.{◌≡◌, List, true, sym}
-use Rattle.m2_script.specs.m2_center.Center.{CenterNow}
-use Rattle.m2_script.specs.m2_center.Idle.{is_idle}
+use Rattle.m2_node.specs.m2_script.m2_center.Center.{CenterNow}
+use Rattle.m2_node.specs.m2_script.m2_center.Idle.{is_idle}
 use Rattle.m2_dispatch.specs.declared.logged.Logged.{Logged}
-use Rattle.m2_run.proofs.Places.{all_more}
+use Rattle.m2_node.proofs.Places.{all_more}
 use Rattle.m2_run.proofs.still.all_idle.Goals as goal
 
 pub centers-preserved : goal.centers-preserved

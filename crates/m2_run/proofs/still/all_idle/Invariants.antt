@@ -1,8 +1,8 @@
 -- Those before are idle.
 use Rattle.std.proofs.Common.{◌≡◌, true, take, List}
 use Rattle.std.specs.List.{AllByRecursion}
-use Rattle.m2_script.specs.m2_center.Center.{CenterNow}
-use Rattle.m2_script.specs.m2_center.Idle.{is_idle}
+use Rattle.m2_node.specs.m2_script.m2_center.Center.{CenterNow}
+use Rattle.m2_node.specs.m2_script.m2_center.Idle.{is_idle}
 use Rattle.m2_dispatch.specs.declared.logged.Logged.{Logged}
 use Rattle.m2_run.proofs.still.all_idle.Given as goal
 

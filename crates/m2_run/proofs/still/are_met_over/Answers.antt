@@ -4,7 +4,7 @@ use Rattle.m2_bytes.proofs.m2_lemmas.Lists.{all_append}
 use Rattle.m2_dispatch.specs.declared.logged.Logged.{Logged}
 use Rattle.m2_fabric.specs.Sockets.{goes_to}
 use Rattle.m2_fabric.specs.declared.socket.SocketId.{SocketId}
-use Rattle.m2_script.specs.m2_center.Center.{CenterNow}
+use Rattle.m2_node.specs.m2_script.m2_center.Center.{CenterNow}
 use Rattle.m2_run.specs.Still.{AreMetOf, IsMet, log_in}
 use Rattle.m2_run.proofs.Leaves.{made_over, next_given, none_given}
 use Rattle.m2_run.proofs.still.are_met_over.Goals as goal

@@ -1,7 +1,7 @@
 -- One link more, and at the end all.
 use Rattle.std.proofs.lemmas.Option.{slice_get-get_or}
 use Rattle.m2_run.specs.Weaving.{HasHistory}
-use Rattle.m2_run.proofs.Places.{each_more, each_of_all}
+use Rattle.m2_node.proofs.Places.{each_more, each_of_all}
 use Rattle.m2_run.proofs.Weaves.{stops_here}
 use Rattle.m2_run.proofs.weaving.weave_all.Goals as goal
 

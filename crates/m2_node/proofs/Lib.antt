@@ -1,0 +1,29 @@
+pub mod Beside
+pub mod Closed
+pub mod Dispatched
+pub mod DispatchedNodes
+pub mod DoorsBegin
+pub mod Each
+pub mod Filters
+pub mod Goings
+pub mod HandedOn
+pub mod HomesBegin
+pub mod InboxLists
+pub mod Merging
+pub mod NewRecords
+pub mod NodesBegin
+pub mod OutPorts
+pub mod Places
+pub mod Plans
+pub mod Posting
+pub mod Rights
+pub mod SendersWork
+pub mod Shares
+pub mod StepLists
+pub mod TakenOut
+pub mod Turned
+pub mod Way
+pub mod Workers
+pub mod WorkersBegin
+pub use Rattle.m2_links_go_on.proofs as m2_links_go_on
+pub use Rattle.m2_script.proofs as m2_script

@@ -1,0 +1,118 @@
+-- Centers go on: in a turn, where they wait, where time passes, and in one of these after another.
+use Rattle.std.proofs.Common.{◌≡◌, inl, inr, ℕ, ◌≤◌, Bool, true, List, refl, sym, subst, ◌∙◌, le_refl, le_trans}
+use Rattle.m2_script.specs.m2_center.Center.{CenterNow}
+use Rattle.m2_script.specs.m2_center.CenterTurn.{means_at}
+use Rattle.m2_links_go_on.specs.CourseLaws.{PollsStayOnCourse, TurnsStayOnCourse, WaitingStaysOnCourse}
+use Rattle.m2_links_go_on.specs.Made.{NodeMade}
+use Rattle.m2_dispatch.specs.Heard.{heard_by}
+use Rattle.m2_dispatch.specs.declared.logged.Logged.{Logged}
+use Rattle.m2_fabric.proofs.m2_lemmas.Booleans.{from_true_false}
+use Rattle.m2_links_go_on.specs.ClusterLaws.{TurnGrows}
+use Rattle.m2_links_go_on.specs.LeftLaws.{ComingStays}
+use Rattle.m2_links_go_on.specs.LogLaws.{TurnsStayLogged, holding_in}
+use Rattle.m2_links_go_on.specs.PeerLaws.{TurnsStayOfPeers}
+use Rattle.m2_node.specs.Way.{GoesOn, IsUnderWay, StepsSo}
+use Rattle.m2_node.specs.WayLaws.{PollsGoOn, StepsGoOn, TurnsGoOn, WaitingGoesOn}
+use Rattle.m2_node.specs.Working.{WorkerNow, Works}
+
+-- ---- a center
+
+-- where nothing happens
+pub goes_not : (may_give : ℕ → Type 0) (moment : ℕ) (started : Bool) (c : CenterNow (List Logged)) → GoesOn may_give moment moment started c c
+goes_not may_give moment started c = record { way = λ made w. w; off = λ h. refl }
+
+-- one after another
+pub goes_then : (may_give : ℕ → Type 0) (a b c : ℕ) (started : Bool) (x y z : CenterNow (List Logged)) → GoesOn may_give a b started x y → GoesOn may_give b c started y z →
+    GoesOn may_give a c started x z
+goes_then may_give a b c started x y z g h = record {
+  way = λ made w. h.way made (g.way made w);
+  off = λ off. h.off off ∙ g.off off;
+}
+
+pub turns_go_on : (E C : Type 0) (may_give : C → ℕ → Type 0) → TurnsStayOnCourse (List Logged) E C may_give → TurnGrows (List Logged) E → ComingStays →
+    TurnsStayLogged (List Logged) E → TurnsStayOfPeers (List Logged) E → TurnsGoOn E C may_give
+turns_go_on E C may_give on_course grows coming logged of_peers clock from now numbers throttle old new t given later =
+    let m = means_at now numbers throttle in
+    let turn = t.turns in
+    record {
+      way = λ (made : NodeMade) (w : IsUnderWay (may_give clock) from made old). record {
+        course = on_course heard_by m t.answer old new turn clock from made given later t.before w.course;
+        came = coming (holding_in old) (holding_in new) (grows heard_by m t.answer old new turn w.course.own) w.came;
+        logged = logged heard_by m t.answer old new turn w.course.own t.before t.behind w.logged;
+        peers = of_peers heard_by m t.answer old new turn w.peers;
+      };
+      off = λ h. from_true_false h;
+    }
+
+pub polls_go_on : (C : Type 0) (may_give : C → ℕ → Type 0) → PollsStayOnCourse (List Logged) C may_give → PollsGoOn C may_give
+polls_go_on C may_give on_course clock moment old new polls =
+    let faults = new.port.faults in
+    record {
+      way = λ (made : NodeMade) (w : IsUnderWay (may_give clock) moment made old).
+          subst (λ (c : CenterNow (List Logged)). IsUnderWay (may_give clock) moment made c) (sym polls) (record {
+            course = on_course clock moment faults made old w.course;
+            came = w.came;
+            logged = w.logged;
+            peers = w.peers;
+          });
+      off = λ h. from_true_false h;
+    }
+
+pub waiting_goes_on : (C : Type 0) (may_give : C → ℕ → Type 0) → WaitingStaysOnCourse (List Logged) C may_give → WaitingGoesOn C may_give
+waiting_goes_on C may_give on_course clock from now started c given later = record {
+  way = λ (made : NodeMade) (w : IsUnderWay (may_give clock) from made c). record {
+    course = on_course clock from now made c given later w.course;
+    came = w.came;
+    logged = w.logged;
+    peers = w.peers;
+  };
+  off = λ h. refl;
+}
+
+pub steps_go_on : (E C : Type 0) (may_give : C → ℕ → Type 0) → TurnsGoOn E C may_give → PollsGoOn C may_give → StepsGoOn E C may_give
+steps_go_on E C may_give turns polls clock from now numbers throttle old new s given later =
+    let turned = turns clock from now numbers throttle old s.mid s.turns given later in
+    elim s.waits [
+      | inl same ↦ subst (λ (c : CenterNow (List Logged)). GoesOn (may_give clock) from now true old c) (sym same) turned
+      | inr polled ↦ goes_then (may_give clock) from now now true old s.mid new turned (polls clock now s.mid new polled)
+    ]
+
+-- ---- a worker
+
+pub works_not : (may_give : ℕ → Type 0) (w : WorkerNow) → Works may_give w w
+works_not may_give w = record {
+  numbers = refl;
+  throttle = refl;
+  started = refl;
+  later = le_refl w.moment;
+  given = λ g. g;
+  goes = λ g. goes_not may_give w.moment w.started w.center;
+}
+
+pub works_then : (may_give : ℕ → Type 0) (a b c : WorkerNow) → Works may_give a b → Works may_give b c → Works may_give a c
+works_then may_give a b c f g = record {
+  numbers = g.numbers ∙ f.numbers;
+  throttle = g.throttle ∙ f.throttle;
+  started = g.started ∙ f.started;
+  later = le_trans f.later g.later;
+  given = λ given. g.given (f.given given);
+  goes = λ given.
+      goes_then may_give a.moment b.moment c.moment a.started a.center b.center c.center (f.goes given)
+      (subst (λ (s : Bool). GoesOn may_give b.moment c.moment s b.center c.center) f.started (g.goes (f.given given)));
+}
+
+-- one that is on takes a turn, behind which its thread may wait
+pub works_by : (E C : Type 0) (may_give : C → ℕ → Type 0) → StepsGoOn E C may_give → (clock : C) (old new : WorkerNow) (now : ℕ) → old.started ≡ true → old.moment ≤ now →
+    (may_give clock old.moment → may_give clock now) → new.moment ≡ now → new.started ≡ old.started → new.numbers ≡ old.numbers → new.throttle ≡ old.throttle →
+    StepsSo E now old.numbers old.throttle old.center new.center → Works (may_give clock) old new
+works_by E C may_give steps clock old new now on later given moment started numbers throttle s = record {
+  numbers = numbers;
+  throttle = throttle;
+  started = started;
+  later = subst (λ (m : ℕ). old.moment ≤ m) (sym moment) later;
+  given = λ g. subst (may_give clock) (sym moment) (given g);
+  goes = λ g.
+      subst (λ (m : ℕ). GoesOn (may_give clock) old.moment m old.started old.center new.center) (sym moment)
+      (subst (λ (b : Bool). GoesOn (may_give clock) old.moment now b old.center new.center) (sym on)
+      (steps clock old.moment now old.numbers old.throttle old.center new.center s (given g) later));
+}

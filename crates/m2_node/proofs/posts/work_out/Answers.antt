@@ -1,0 +1,32 @@
+-- The threads are still those of the nodes when they have worked.
+use Rattle.std.proofs.Common.{List, map, sym, subst}
+use Rattle.std.proofs.lemmas.Result.{IfOk-weaker}
+use Rattle.m2_node.specs.Handing.{worker_of}
+use Rattle.m2_node.specs.Posts.{PostsNow}
+use Rattle.m2_node.specs.Working.{AllWork, WorkerNow}
+use Rattle.m2_node.proofs.Closed.{posts_still}
+use Rattle.m2_node.proofs.Goings.{stay_grouped}
+use Rattle.m2_node.proofs.posts.work_out.Goals as goal
+
+pub close_posts-requires-clause-groups : goal.close_posts-requires-clause-groups
+close_posts-requires-clause-groups g c =
+    let may = g.C.Clock.may_give c.args.clock.now in
+    let ws = c.args.workers.items in
+    let vs = map worker_of c.work_all.new.posts.senders.items in
+    stay_grouped may c.args.nodes.now c.args.shares.now ws vs (subst (λ (us : List WorkerNow). AllWork may us vs) c.in_ok-posts.ensures.workers_are c.work_all.ensures.works) c.requires.groups
+
+pub close_posts-requires-clause-posts : goal.close_posts-requires-clause-posts
+close_posts-requires-clause-posts g c =
+    let p = c.in_ok-posts.posts in
+    let q = c.work_all.new.posts in
+    let old : PostsNow = record { senders = p.senders.items; servers = p.servers.items; mails = p.mails.items } in
+    let new : PostsNow = record { senders = q.senders.items; servers = q.servers.items; mails = q.mails.items } in
+    posts_still c.args.nodes.now c.args.shares.now c.args.workers.items old new c.in_ok-posts.ensures c.work_all.ensures.senders c.work_all.ensures.servers c.work_all.ensures.serves
+
+pub returns-clause-works : goal.returns-clause-works
+returns-clause-works g c =
+    let may = g.C.Clock.may_give c.args.clock.now in
+    let ws = c.args.workers.items in
+    let vs = map worker_of c.work_all.new.posts.senders.items in
+    let works = subst (λ (us : List WorkerNow). AllWork may us vs) c.in_ok-posts.ensures.workers_are c.work_all.ensures.works in
+    IfOk-weaker c.close_posts.result _ _ (λ closed same. subst (AllWork may ws) (sym same) works) c.close_posts.ensures.workers

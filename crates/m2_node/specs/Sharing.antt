@@ -1,0 +1,46 @@
+-- What the event threads of nodes share. This project's own.
+use Rattle.std.specs.Prelude.{◌≡◌, ℕ, List, [], ◌∷◌, ◌++◌, length}
+use Rattle.std.specs.List.{AllByRecursion}
+use Rattle.m2_dispatch.specs.m2_shared.Numbers.{SeenNumberPass, SeenNumbers}
+use Rattle.m2_dispatch.specs.m2_shared.Place.{IsShared}
+use Rattle.m2_dispatch.specs.m2_shared.Throttle.{SeenTakePass, SeenThrottle}
+use Rattle.m2_node.specs.Lists.{SideBySide}
+
+-- the counter of global numbers, and the throttle
+pub record ShareNow : Type 0 where
+  pub numbers : SeenNumbers
+  pub throttle : SeenThrottle
+
+-- the passes to them that each thread's are split off
+pub record FirstPassesNow : Type 0 where
+  pub numbers : SeenNumberPass
+  pub throttle : SeenTakePass
+
+-- both lie where threads share them
+pub record IsShare (s : ShareNow) : Type 0 where
+  pub numbers : IsShared s.numbers.place
+  pub throttle : IsShared s.throttle.place
+
+-- they are to these, and nothing was drawn or granted by them
+pub record AreFirstOf (s : ShareNow) (p : FirstPassesNow) : Type 0 where
+  pub numbers : p.numbers ≡ record { place = s.numbers.place; least = 0; drawn = [] }
+  pub throttle : p.throttle ≡ record { place = s.throttle.place; word = 0; changes = [] }
+
+-- of each of so many nodes the threads share these, and these are the first passes to them
+pub record AreSharesOf (nodes : ℕ) (shares : List ShareNow) (passes : List FirstPassesNow) : Type 0 where
+  pub count : length shares ≡ nodes
+  pub shared : AllByRecursion IsShare shares
+  pub first : SideBySide AreFirstOf shares passes
+
+-- those of one more go last
+pub record AddsShare (shares : List ShareNow) (passes : List FirstPassesNow) (shares_new : List ShareNow) (passes_new : List FirstPassesNow) : Type 0 where
+  pub share : ShareNow
+  pub pass : FirstPassesNow
+  pub shared : IsShare share
+  pub first : AreFirstOf share pass
+  pub shares_are : shares_new ≡ shares ++ share ∷ []
+  pub passes_are : passes_new ≡ passes ++ pass ∷ []
+
+-- of each node a right to give back, of the thread of its dispatcher
+abbrev pub AreRights : List ShareNow → List SeenTakePass → Type 0
+AreRights shares rights = SideBySide (λ (s : ShareNow) (r : SeenTakePass). r.place ≡ s.throttle.place) shares rights

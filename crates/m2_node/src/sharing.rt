@@ -1,0 +1,118 @@
+//! What the event threads of nodes share.
+
+ghost use Rattle.std.specs.Prelude.{◌≡◌, [], ℕ, IfOk, OnOk, length};
+ghost use Rattle.m2_dispatch.specs.m2_shared.Place.{IsShared};
+ghost use Rattle.m2_node.specs.Sharing.{AddsShare, AreRights, AreSharesOf};
+
+use crate::node::{Shares, clear_shares};
+use m2_bytes::NoMemory;
+use m2_scenario::Node;
+use m2_script::{NodeShared, Passes};
+use m2_shared::{NumberPass, Numbers, TakePass, Throttle};
+use std::alloc::Global;
+use std::marker::Model;
+use std::sync::Condvar;
+
+/// The passes to what the threads of a node share, of which each thread gets its own.
+#[derive(Drop)]
+pub struct FirstPasses {
+    numbers: NumberPass,
+    throttle: TakePass,
+}
+
+impl Model for FirstPasses {
+    ghost use Rattle.m2_node.specs.Sharing.{FirstPassesNow};
+
+    ghost Value = { FirstPassesNow };
+
+    ghost view = { λ p. record { numbers = p.numbers; throttle = p.throttle } };
+}
+
+/// What the threads of each node share, with the first passes to it. It can't be dropped, since a throttle can't.
+pub struct Shared {
+    pub shares: Vec<Shares>,
+    pub passes: Vec<FirstPasses>,
+}
+
+/// What the threads of each of these nodes share, of which nothing was granted or drawn.
+pub fn shared_by(alloc: Global, nodes: &[Node]) -> Result<Shared, NoMemory>
+    ensures { IfOk result (λ of. AreSharesOf (length nodes.now) of.shares.items of.passes.items) }
+{
+    let mut of = Shared {
+        shares: Vec::new(alloc),
+        passes: Vec::new(alloc),
+    };
+    'nodes: for node in nodes {
+        if let Err(NoMemory) = add_shares(alloc, node.throttle, &mut of) {
+            let Shared { shares, passes: _ } = of;
+            clear_shares(shares);
+            return Err(NoMemory);
+        }
+    }
+    Ok(of)
+}
+
+/// Those of a node with this bound go last.
+fn add_shares(alloc: Global, most: u64, of: &mut Shared) -> Result<(), NoMemory>
+    ensures { OnOk result (AddsShare of.old.shares.items of.old.passes.items of.new.shares.items of.new.passes.items) }
+{
+    of.shares.reserve(1)?;
+    of.passes.reserve(1)?;
+    let (numbers, number_pass) = Numbers::new(alloc)?;
+    let (throttle, take_pass) = Throttle::new(alloc, most)?;
+    of.shares.push_reserved(Shares {
+        shared: NodeShared { numbers, throttle },
+        given: Condvar::new(),
+        posted: Condvar::new(),
+    });
+    of.passes.push_reserved(FirstPasses {
+        numbers: number_pass,
+        throttle: take_pass,
+    });
+    Ok(())
+}
+
+impl FirstPasses {
+    /// The passes of one thread.
+    pub(crate) fn split(&mut self, shared: &NodeShared) -> Passes
+        requires numbers { self.old.numbers.place ≡ shared.now.numbers.place }
+        requires throttle { self.old.throttle.place ≡ shared.now.throttle.place }
+        requires numbers_shared { IsShared shared.now.numbers.place }
+        requires throttle_shared { IsShared shared.now.throttle.place }
+        ensures same { self.new ≡ self.old }
+        ensures numbers { result.numbers ≡ record self.old.numbers { drawn = [] } }
+        ensures throttle { result.throttle ≡ record self.old.throttle { word = 0; changes = [] } }
+    {
+        Passes {
+            numbers: self.numbers.split(&shared.numbers),
+            throttle: self.throttle.split(&shared.throttle),
+        }
+    }
+    /// The right to give back of the thread of the node's dispatcher.
+    fn split_right(&mut self, shared: &NodeShared) -> TakePass
+        requires throttle { self.old.throttle.place ≡ shared.now.throttle.place }
+        requires shared { IsShared shared.now.throttle.place }
+        ensures same { self.new ≡ self.old }
+        ensures throttle { result.place ≡ shared.now.throttle.place }
+    {
+        self.throttle.split(&shared.throttle)
+    }
+}
+
+/// Of each node the right to give back of the thread of its dispatcher.
+pub fn rights_of(
+    alloc: Global,
+    shares: &[Shares],
+    passes: &mut Vec<FirstPasses>,
+) -> Result<Vec<TakePass>, NoMemory>
+    requires { (count : ℕ) × AreSharesOf count shares.now passes.old.items }
+    ensures same { passes.new.items ≡ passes.old.items }
+    ensures rights { IfOk result (λ rights. AreRights shares.now rights.items) }
+{
+    let mut rights = Vec::new(alloc);
+    'nodes: for k in 0..shares.len() {
+        let right = passes[k].split_right(shares[k].shared());
+        rights.push(right)?;
+    }
+    Ok(rights)
+}

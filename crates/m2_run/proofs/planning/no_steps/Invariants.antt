@@ -1,6 +1,0 @@
-use Rattle.std.proofs.Common.{[]}
-use Rattle.m2_run.specs.Planned.{AreStepsOf}
-use Rattle.m2_run.proofs.planning.no_steps.Given as goal
-
-abbrev pub invariant-nodes : goal.invariant-nodes
-invariant-nodes l = AreStepsOf l.counter [] l.all.items

@@ -1,6 +1,0 @@
--- What the lines that are left have nodes do is to come.
-use Rattle.m2_run.proofs.StepLists.{AreStepsSoFar}
-use Rattle.m2_run.proofs.planning.steps_of.Given as goal
-
-abbrev pub invariant-lines : goal.invariant-lines
-invariant-lines l = AreStepsSoFar l.nodes l.line-iterator.rest.items l.fn.lines.items l.all.items

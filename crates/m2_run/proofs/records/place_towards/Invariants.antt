@@ -1,8 +1,0 @@
--- None of those that were looked at is towards that node.
-use Rattle.std.proofs.Common.{◌≡◌, ◌==◌, ◌<◌, ℕ, false, Some}
-use Rattle.std.specs.Prelude.{slice_get}
-use Rattle.m2_record.specs.RecordNow.{RecordNow}
-use Rattle.m2_run.proofs.records.place_towards.Given as goal
-
-abbrev pub invariant-records : goal.invariant-records
-invariant-records g l = (k : ℕ) (r : RecordNow) → k < l.place → slice_get l.records k ≡ Some r → (r.place == l.peer) ≡ false

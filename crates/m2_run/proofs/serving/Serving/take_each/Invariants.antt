@@ -1,9 +1,0 @@
--- By what was taken so far it serves.
-use Rattle.m2_run.specs.Dispatching.{IsServing, Serves}
-use Rattle.m2_run.proofs.serving.Serving.take_each.Given as goal
-
-abbrev pub invariant-mails : goal.invariant-mails
-invariant-mails g l = record {
-  served : IsServing l.mails l.self;
-  same : Serves l.fn.self l.self;
-}

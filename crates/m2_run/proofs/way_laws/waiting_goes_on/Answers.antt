@@ -1,5 +1,0 @@
-use Rattle.m2_run.proofs.Way.{waiting_goes_on}
-use Rattle.m2_run.proofs.way_laws.waiting_goes_on.Goals as goal
-
-pub returns : goal.returns
-returns g c = waiting_goes_on _ _ c.waiting_stays_on_course.ensures
