@@ -1,4 +1,4 @@
-//! The nodes of a run on threads: each node's event threads and its dispatcher, from before their first turn until they have ended.
+//! Nodes on threads: the event threads of each and its dispatcher, from before their first turn until they have ended.
 //!
 //! What it is: [`rooms_of`] makes an inbox for each event thread, and [`shared_by`] what the threads of each node share.
 //! Over the inboxes ([`Doors`]) and the ports of a fabric whose nodes listen, [`begin_listening`] makes the [`Worker`] of
@@ -7,8 +7,8 @@
 //! node, and the dispatchers beside them, until the [`Signs`] say stop; then it closes the mails, so that each dispatcher
 //! was called with all that was handed on. [`join_all`] makes a [`RunNode`] of the workers of each node, which its owner
 //! has take turns and wait at its ports ([`RunNode::turn`], [`RunNode::poll`]), reads, and takes apart at the end
-//! ([`RunNode::into_parts`]). A node's ports are [`RunPort`]s, and their ends [`RunEnd`]s: those of the fabric, which break
-//! where lines cut them; or of a node that is off.
+//! ([`RunNode::into_parts`]). The port of a thread is a [`RunPort`]: one of the fabric, whose ends ([`RunEnd`]) break where
+//! lines cut them, or that of a node that is off.
 //!
 //! `specs/Begins.antt` says what nodes are before their first turn, `specs/Working.antt` what the workers of nodes do,
 //! `specs/Handing.antt` what they hand on, and `specs/Way.antt` what a node is at a moment and how it goes on:
@@ -55,7 +55,7 @@ pub use m2_script::{
 pub use node::{RunCenter, RunNode, Shares, clear_centers, clear_nodes, clear_shares, end_records};
 pub use port::RunPort;
 pub use posts::{Closed, work_out};
-pub use rooms::{Rights, Rooms, let_go, let_rooms_go, rooms_of};
+pub use rooms::{Rights, Rooms, let_inboxes_go, let_rooms_go, rooms_of};
 pub use sharing::{FirstPasses, Shared, rights_of, shared_by};
 pub use threads::{Joined, join_all};
 pub use way_laws::{polls_go_on, turns_go_on, waiting_goes_on};

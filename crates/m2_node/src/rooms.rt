@@ -89,11 +89,11 @@ pub fn let_rooms_go<E: End>(rooms: Rooms<E>) {
         rights: _,
         rests: _,
     } = rooms;
-    let_go(inboxes);
+    let_inboxes_go(inboxes);
 }
 
 /// The same of these.
-pub fn let_go<E: End>(mut inboxes: Vec<Inbox<Handed<E>>>) {
+pub fn let_inboxes_go<E: End>(mut inboxes: Vec<Inbox<Handed<E>>>) {
     'inboxes: while let Some(inbox) = inboxes.pop() {
         inbox.let_go();
     }

@@ -10,7 +10,7 @@ use crate::ending::Opened;
 use m2_bytes::NoMemory;
 use m2_fabric::{End, Port};
 use m2_handover::{GetPass, Handed, Inbox, PutPass, close_inbox};
-use m2_node::{Rights, let_go};
+use m2_node::{Rights, let_inboxes_go};
 use m2_trail::{Loose, LooseList};
 use std::alloc::Global;
 use std::sync::Wait;
@@ -28,7 +28,7 @@ pub(crate) fn close_all<R: Wait, P: Port>(
 {
     inboxes.reverse();
     let closed = close_each(rt, alloc, &mut inboxes, ends);
-    let_go(inboxes);
+    let_inboxes_go(inboxes);
     closed
 }
 

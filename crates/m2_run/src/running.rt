@@ -42,7 +42,7 @@ use m2_fabric::{CutList, End, Fabric, Port};
 use m2_handover::{HomePort, InboxNames, Inboxes, LentInboxes};
 use m2_node::{
     Doors, FirstPasses, Joined, Rooms, RunNode, Shared, Shares, Signs, WeaveFault,
-    centers_run_their_course, clear_nodes, clear_shares, join_all, let_go, let_rooms_go,
+    centers_run_their_course, clear_nodes, clear_shares, join_all, let_inboxes_go, let_rooms_go,
     posts_that_count, rights_of, rooms_of, shared_by, work_out,
 };
 use m2_scenario::{Line, LineList, Link, LogsList, Node};
@@ -252,7 +252,7 @@ where
     );
     match played {
         Err(fault) => {
-            let_go(inboxes);
+            let_inboxes_go(inboxes);
             Err(fault)
         }
         Ok(

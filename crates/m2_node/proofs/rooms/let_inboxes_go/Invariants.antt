@@ -1,5 +1,5 @@
 use Rattle.std.proofs.Common.{length}
-use Rattle.m2_node.proofs.rooms.let_go.Given as goal
+use Rattle.m2_node.proofs.rooms.let_inboxes_go.Given as goal
 
 abbrev pub invariant-inboxes : goal.invariant-inboxes
 invariant-inboxes g l = Unit {0}
