@@ -11,7 +11,6 @@ use Rattle.m2_links_go_on.specs.Made.{NodeMade}
 use Rattle.m2_dispatch.specs.declared.logged.Logged.{Logged}
 use Rattle.m2_script.specs.m2_record.RecordNow.{RecordNow}
 use Rattle.m2_node.proofs.Way.{goes_then}
-use Rattle.m2_scenario.specs.declared.link.Link.{Link}
 use Rattle.m2_scenario.specs.declared.node.Node.{Node}
 use Rattle.m2_node.specs.Nodes.{RunNodeNow}
 use Rattle.m2_node.specs.Sharing.{ShareNow}

@@ -1,6 +1,6 @@
 //! The mails of event threads, by which what they hand on comes to the dispatcher of their node.
 
-ghost use Rattle.std.specs.Prelude.{◌≡◌, ◌∷◌, ◌++◌, [], false, IfOk};
+ghost use Rattle.std.specs.Prelude.{◌≡◌, [], IfOk};
 ghost use Rattle.m2_dispatch.specs.Parcel.{AllOwned};
 ghost use Rattle.m2_mailbox.specs.Passes.{IsGetPassOf, IsPutPassOf, owner_of, parts_of, puts_of, taken_of};
 ghost use Rattle.m2_mailbox.specs.Views.{all_parts};

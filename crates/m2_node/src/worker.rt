@@ -1,6 +1,6 @@
 //! An event thread of a run: a center that takes turns until it is told to stop.
 
-ghost use Rattle.std.specs.Prelude.{◌≡◌, ◌≢◌, ◌⊎◌, true};
+ghost use Rattle.std.specs.Prelude.{◌≡◌, ◌⊎◌, true};
 ghost use Rattle.m2_dispatch.specs.Heard.{heard_by};
 ghost use Rattle.m2_dispatch.specs.m2_shared.Place.{IsShared};
 ghost use Rattle.m2_script.specs.m2_center.m2_turn.HandingOn.{HandsOn};

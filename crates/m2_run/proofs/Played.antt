@@ -1,6 +1,5 @@
 -- All nodes go on: their workers to the latest moment, and behind that whoever started them; so they have played.
 use Rattle.std.proofs.Common.{◌≡◌, ◌⊎◌, ℕ, ◌≤◌, List, subst, ◌∙◌, arith}
-use Rattle.std.specs.Prelude.{slice_get, Some}
 use Rattle.m2_scenario.specs.declared.link.Link.{Link}
 use Rattle.m2_scenario.specs.declared.node.Node.{Node}
 use Rattle.m2_node.specs.Nodes.{RunNodeNow}
