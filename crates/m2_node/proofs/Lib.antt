@@ -9,6 +9,7 @@ pub mod Goings
 pub mod HandedOn
 pub mod HomesBegin
 pub mod InboxLists
+pub mod Looked
 pub mod Merging
 pub mod NewRecords
 pub mod NodesBegin

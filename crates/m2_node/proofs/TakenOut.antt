@@ -16,7 +16,7 @@ use Rattle.m2_node.proofs.Dispatched.{heard_for_both}
 use Rattle.m2_node.proofs.Merging.{merge_at}
 
 -- what stands at a place where one item was set: that one there, and elsewhere what stood there
-set_here : {X : Type 0} (xs : List X) (j : ℕ) (x y z : X) → slice_get xs j ≡ Some x → slice_get (slice_set xs j y) j ≡ Some z → z ≡ y
+pub set_here : {X : Type 0} (xs : List X) (j : ℕ) (x y z : X) → slice_get xs j ≡ Some x → slice_get (slice_set xs j y) j ≡ Some z → z ≡ y
 set_here [] j x y z here e = absurd (none-some x here)
 set_here (w ∷ xs) zero x y z here e = sym (same_Some y z e)
 set_here (w ∷ xs) (suc j) x y z here e = set_here xs j x y z here e

@@ -1,5 +1,5 @@
 -- The dispatcher of a node, on a thread of its own: it takes what event threads hand on out of their mails. This project's own.
-use Rattle.std.specs.Prelude.{◌≡◌, ℕ, ◌+◌, Bool, false, List, [], ◌∷◌, ◌++◌, length, map, slice_get, Some}
+use Rattle.std.specs.Prelude.{◌≡◌, ◌≢◌, ℕ, ◌+◌, ◌<◌, ◌≤◌, Bool, true, false, List, [], ◌∷◌, ◌++◌, length, map, slice_get, Some}
 use Rattle.m2_dispatch.specs.Heard.{Heard, heard_by}
 use Rattle.m2_dispatch.specs.Dispatch.{Queued}
 use Rattle.m2_dispatch.specs.Letters.{heard_in}
@@ -10,7 +10,7 @@ use Rattle.m2_dispatch.specs.declared.parcel.Parcel.{Parcel}
 use Rattle.m2_dispatch.specs.m2_shared.Place.{Place}
 use Rattle.m2_dispatch.specs.m2_shared.declared.ids.Ids.{Ids}
 use Rattle.m2_mailbox.specs.Merge.{IsMerge}
-use Rattle.m2_mailbox.specs.Passes.{IsGetPassOf, IsPutPassOf, capacity_of, owner_of, parts_of, puts_of, taken_of}
+use Rattle.m2_mailbox.specs.Passes.{IsGetPassOf, IsPutPassOf, capacity_of, looks_of, next_look, owner_of, parts_of, puts_of, taken_of}
 use Rattle.m2_mailbox.specs.Views.{all_parts}
 use Rattle.m2_mailbox.specs.declared.inbox.Inbox.{Inbox}
 use Rattle.m2_mailbox.specs.declared.inbox.TheConstants.{MOST_PARCELS}
@@ -82,3 +82,30 @@ pub record Serves (old new : ServingNow) : Type 0 where
   pub place : new.dispatcher.place ≡ old.dispatcher.place
   pub count : length new.gets ≡ length old.gets
   pub first : new.first ≡ old.first
+
+-- one look into a mail by this right: whether a parcel was there, which was taken then, and nothing else
+pub record Looks (any : Bool) (old new : GetPass Parcel Ids) : Type 0 where
+  pub looked : looks_of new ≡ next_look (looks_of old)
+  pub taken : any ≡ true → (parcel : Parcel) × (taken_of new ≡ taken_of old ++ parcel ∷ [])
+  pub none : any ≡ false → taken_of new ≡ taken_of old
+
+-- the right to take out of the mail at this place of its node, before and after
+abbrev pub AreRightsAt : (j : ℕ) (old new : ServingNow) (g h : GetPass Parcel Ids) → Type 0
+AreRightsAt j old new g h = (slice_get old.gets j ≡ Some g) × (slice_get new.gets j ≡ Some h)
+
+-- one look into this mail of its node, if there is one; there is where a parcel was there; nothing was done with the others
+pub record LooksAt (mails : List Mail) (j : ℕ) (any : Bool) (old new : ServingNow) : Type 0 where
+  pub looks : (m : Mail) (g h : GetPass Parcel Ids) → slice_get mails (old.first + j) ≡ Some m → AreRightsAt j old new g h → Looks any g h
+  pub some : any ≡ true → (g : GetPass Parcel Ids) × (h : GetPass Parcel Ids) × AreRightsAt j old new g h × Looks true g h
+  pub others : (i : ℕ) → i ≢ j → slice_get new.gets i ≡ slice_get old.gets i
+
+-- One look into each of the first so many mails of its node; a parcel was there, in one at least, or in none. Nothing was done with the
+-- others.
+pub record LooksBefore (mails : List Mail) (k : ℕ) (any : Bool) (old new : ServingNow) : Type 0 where
+  pub each : (j : ℕ) (m : Mail) (g h : GetPass Parcel Ids) → j < k → slice_get mails (old.first + j) ≡ Some m → AreRightsAt j old new g h → (one : Bool) × Looks one g h × (any ≡ false → one ≡ false)
+  pub some : any ≡ true → (j : ℕ) × (j < k) × (g : GetPass Parcel Ids) × (h : GetPass Parcel Ids) × AreRightsAt j old new g h × Looks true g h
+  pub others : (j : ℕ) → k ≤ j → slice_get new.gets j ≡ slice_get old.gets j
+
+-- one look into each mail of its node
+abbrev pub LooksIntoAll : (mails : List Mail) (any : Bool) (old new : ServingNow) → Type 0
+LooksIntoAll mails any old new = LooksBefore mails (length old.gets) any old new

@@ -1,7 +1,7 @@
 //! The thread of a node's dispatcher, which takes what the node's event threads hand on.
 
-ghost use Rattle.std.specs.Prelude.{◌≡◌, ◌<◌, length};
-ghost use Rattle.m2_node.specs.Dispatching.{IsServing, Serves};
+ghost use Rattle.std.specs.Prelude.{◌≡◌, ◌<◌, Bool, length};
+ghost use Rattle.m2_node.specs.Dispatching.{IsServing, LooksAt, LooksIntoAll, Serves};
 
 use crate::dispatcher::NodeDispatcher;
 use crate::mails::Mail;
@@ -77,6 +77,7 @@ impl<'s> Serving<'s> {
         requires { IsServing mails.now self.old }
         ensures served { IsServing mails.now self.new }
         ensures same { Serves self.old self.new }
+        ensures looks { (any : Bool) × LooksIntoAll mails.now any self.old self.new }
     {
         let shares = self.shares;
         let seen = shares.posted.notifications();
@@ -94,10 +95,11 @@ impl<'s> Serving<'s> {
         requires { IsServing mails.now self.old }
         ensures served { IsServing mails.now self.new }
         ensures same { Serves self.old self.new }
+        ensures looks { LooksIntoAll mails.now result self.old self.new }
     {
         let mut any = false;
-        'mails: for j in 0..self.gets.len() {
-            any = self.take_one(rt, mails, j) || any;
+        'mails: for j in 0..self.gets.as_slice().len() {
+            any |= self.take_one(rt, mails, j);
         }
         any
     }
@@ -108,14 +110,12 @@ impl<'s> Serving<'s> {
         requires place { j < length self.old.gets }
         ensures served { IsServing mails.now self.new }
         ensures same { Serves self.old self.new }
+        ensures looks { LooksAt mails.now j result self.old self.new }
     {
-        let Some(number) = self.first.checked_add(j) else {
-            return false;
-        };
-        if number >= mails.len() {
+        if self.first >= mails.len() || j >= mails.len() - self.first {
             return false;
         }
-        let mail = &mails[number];
+        let mail = &mails[self.first + j];
         match mail.take(rt, &mut self.gets[j]) {
             None => false,
             Some(parcel) => {
