@@ -192,8 +192,20 @@ fn is_found(alloc: Global, pair: &Pair, changed: u32) -> Result<bool, NoMemory> 
             woven.whole && is_fitting(order, pair.acceptor.as_slice(), pair.opener.as_slice()),
         );
     }
-    let at = woven.at.as_slice();
-    if woven.whole || at.len() != strands.len() {
+    if woven.whole {
+        return Ok(false);
+    }
+    is_that_byte(&strands, &table, woven.at.as_slice(), changed)
+}
+
+/// Whether what stands in the way at these places is the acceptor's byte at this one, which was changed.
+fn is_that_byte(
+    strands: &[Strand<'_>],
+    table: &SocketTable<'_>,
+    at: &[usize],
+    changed: u32,
+) -> Result<bool, NoMemory> {
+    if at.len() != strands.len() {
         return Ok(false);
     }
     let put = (changed % 251) as u8;
@@ -206,8 +218,7 @@ fn is_found(alloc: Global, pair: &Pair, changed: u32) -> Result<bool, NoMemory> 
             put,
         },
     };
-    let found = first_stop(&strands, &table, at)?;
-    Ok(found == Some(expected))
+    Ok(first_stop(strands, table, at)? == Some(expected))
 }
 
 #[test]
