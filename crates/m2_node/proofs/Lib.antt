@@ -1,5 +1,4 @@
 pub mod Beside
-pub mod Closed
 pub mod Dispatched
 pub mod DispatchedNodes
 pub mod DoorsBegin
@@ -10,6 +9,7 @@ pub mod HandedOn
 pub mod HomesBegin
 pub mod InboxLists
 pub mod Looked
+pub mod MailsClosed
 pub mod Merging
 pub mod NewRecords
 pub mod NodesBegin
@@ -17,9 +17,9 @@ pub mod OutPorts
 pub mod Places
 pub mod Plans
 pub mod Posting
-pub mod Rights
+pub mod RightsSplit
 pub mod SendersWork
-pub mod Shares
+pub mod SharesMade
 pub mod StepLists
 pub mod TakenOut
 pub mod Turned

@@ -5,7 +5,7 @@ use Rattle.std.specs.Prelude.{vec_len}
 use Rattle.m2_node.specs.Handing.{worker_of}
 use Rattle.m2_node.specs.Posts.{ClosesAll}
 use Rattle.m2_node.specs.Working.{WorkerNow}
-use Rattle.m2_node.proofs.Closed.{all_closed, next_closable, none_closed, one_more_closed}
+use Rattle.m2_node.proofs.MailsClosed.{all_closed, next_closable, none_closed, one_more_closed}
 use Rattle.m2_node.proofs.Places.{reverse_last}
 use Rattle.m2_node.proofs.posts.close_each.Goals as goal
 

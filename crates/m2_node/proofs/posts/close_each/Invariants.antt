@@ -1,7 +1,7 @@
 -- The mails so far are closed, and there is room for the workers of those that are left; there is one less each time.
 use Rattle.std.proofs.Common.{◌≡◌, ◌-◌, ◌≤◌, length, reverse}
 use Rattle.std.specs.Prelude.{vec_capacity, vec_len}
-use Rattle.m2_node.proofs.Closed.{ClosedSoFar}
+use Rattle.m2_node.proofs.MailsClosed.{ClosedSoFar}
 use Rattle.m2_node.proofs.posts.close_each.Given as goal
 
 abbrev pub invariant-mails : goal.invariant-mails

@@ -3,7 +3,7 @@ use Rattle.std.proofs.Common.{sym, subst}
 use Rattle.m2_node.specs.Dispatching.{taken_by}
 use Rattle.m2_node.specs.Handing.{IsSending, SenderNow, handed_by}
 use Rattle.m2_node.specs.Posts.{ClosesSender}
-use Rattle.m2_node.proofs.Closed.{sender_closed}
+use Rattle.m2_node.proofs.MailsClosed.{sender_closed}
 use Rattle.m2_node.proofs.posts.close_sender.Goals as goal
 
 pub returns-clause-closed : goal.returns-clause-closed

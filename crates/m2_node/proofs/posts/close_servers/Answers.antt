@@ -5,7 +5,7 @@ use Rattle.std.proofs.lemmas.List.{length-append, length-map, length-reverse}
 use Rattle.m2_bytes.proofs.m2_lemmas.Lists.{all_at}
 use Rattle.m2_node.specs.Handing.{worker_of}
 use Rattle.m2_node.specs.Sharing.{IsShare}
-use Rattle.m2_node.proofs.Closed.{all_servers_closed, enough, no_servers_closed, one_more_server, server_closable, server_merged}
+use Rattle.m2_node.proofs.MailsClosed.{all_servers_closed, enough, no_servers_closed, one_more_server, server_closable, server_merged}
 use Rattle.m2_node.proofs.Places.{There, reverse_last, there_at}
 use Rattle.m2_node.proofs.posts.close_servers.Goals as goal
 

@@ -1,7 +1,7 @@
 -- The mails of the first nodes are closed, and there is room for the workers and dispatchers of the others.
 use Rattle.std.proofs.Common.{◌-◌, ◌≤◌, reverse}
 use Rattle.std.specs.Prelude.{vec_capacity, vec_len}
-use Rattle.m2_node.proofs.Closed.{ServersClosed}
+use Rattle.m2_node.proofs.MailsClosed.{ServersClosed}
 use Rattle.m2_node.proofs.posts.close_servers.Given as goal
 
 abbrev pub invariant-nodes : goal.invariant-nodes

@@ -4,7 +4,7 @@ use Rattle.std.proofs.lemmas.Result.{IfOk-weaker}
 use Rattle.m2_node.specs.Handing.{worker_of}
 use Rattle.m2_node.specs.Posts.{PostsNow}
 use Rattle.m2_node.specs.Working.{AllWork, WorkerNow}
-use Rattle.m2_node.proofs.Closed.{posts_still}
+use Rattle.m2_node.proofs.MailsClosed.{posts_still}
 use Rattle.m2_node.proofs.Goings.{stay_grouped}
 use Rattle.m2_node.proofs.posts.work_out.Goals as goal
 

@@ -6,7 +6,7 @@ use Rattle.std.proofs.lemmas.Option.{slice_get-get_or}
 use Rattle.m2_dispatch.specs.m2_shared.Throttle.{SeenTakePass, SeenThrottle}
 use Rattle.m2_node.specs.Sharing.{AreFirstOf, AreRights, FirstPassesNow, ShareNow}
 use Rattle.m2_node.proofs.Beside.{side_length}
-use Rattle.m2_node.proofs.Rights.{first_there, one_right}
+use Rattle.m2_node.proofs.RightsSplit.{first_there, one_right}
 use Rattle.m2_node.proofs.sharing.rights_of.Goals as goal
 
 pub index_mut-requires : goal.index_mut-requires

@@ -1,5 +1,5 @@
 -- Those of one node more.
-use Rattle.m2_node.proofs.Shares.{one_share_more}
+use Rattle.m2_node.proofs.SharesMade.{one_share_more}
 use Rattle.m2_node.proofs.sharing.shared_by.Goals as goal
 
 pub nodes-preserved : goal.nodes-preserved
