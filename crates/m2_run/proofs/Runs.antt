@@ -266,6 +266,11 @@ module _ (may_give : ℕ → Type 0) (limit : ℕ) (nodes : List Node) (links : 
     over = over o f.kept f.left_is f.ended.as_ran f.rest stopped.over;
   }
 
+  pub shows_run : (saw : Shown → Type 0) (o : Outcome) → (f : HasFinished left cuts nodes links ran mid new o) × saw (shown_of f.kept f.ends) →
+      (r : HasRan may_give limit nodes links lines old new o) × saw (shown_of r.kept r.ends)
+  unfolding has_ran
+  shows_run saw o shows = (has_ran o shows.0, shows.1)
+
   pub has_faulted : (f : RunFault) → EndsInFault cuts nodes links ran mid new f → IsFaultOf may_give nodes links lines old new f
   has_faulted fault.NoMemory ended = no_fault
   has_faulted (fault.Bind node) ended = absurd ended
@@ -282,6 +287,7 @@ module _ (may_give : ℕ → Type 0) (limit : ℕ) (nodes : List Node) (links : 
 
   pub shows_fault : (saw : Shown → Type 0) (stays : Type 0) (f : RunFault) → ShowsEnd saw stays cuts nodes links ran mid new f →
       ShowsFault saw stays may_give nodes links lines old new f
+  unfolding has_faulted
   shows_fault saw stays fault.NoMemory shows = shows
   shows_fault saw stays (fault.Bind node) shows = absurd shows
   shows_fault saw stays (fault.Unfit u) shows = (has_faulted (fault.Unfit u) shows.0, shows.1)

@@ -9,7 +9,7 @@ use Rattle.m2_node.specs.Lists.{SideBySide}
 use Rattle.m2_node.specs.Nodes.{RunNodeNow, nodes_of}
 use Rattle.m2_run.proofs.Told.{both_heard}
 use Rattle.m2_run.specs.Opened.{HaveEachOnce, OpenedNow, all_kept, made_of_all}
-use Rattle.m2_run.specs.Ran.{EndsInFault, ShowsEnd}
+use Rattle.m2_run.specs.Ran.{EndsInFault, HasFinished, ShowsEnd}
 use Rattle.m2_run.specs.Rests.{Shown, loose_of}
 use Rattle.m2_run.specs.Still.{IsAtRest}
 use Rattle.m2_run.specs.Weaving.{HaveHistories, WeavesAll}
@@ -34,7 +34,7 @@ returns-in-Ok-woven-clause-shown g c = IfOk-weaker c.told.result _ _ (λ o both 
     (subst (HaveEachOnce nodes) c.as_slice-2.ensures.value c.in_default.ensures) gathered.gathered gathered.ports in
     let rests = subst (λ (os : List OpenedNow). (c.args.left ≡ 0) ⊎ AllByRecursion (λ (o : OpenedNow). (o.left.on_way ≡ []) × AllByRecursion (IsAtRest (made_of_all os)) o.left.at_door) os)
     c.as_slice.ensures.value (OnTrue_at c.if-not-is_over.false c.is_over.ensures) in
-    let finished = record {
+    let finished : HasFinished c.args.left cuts nodes links ran (seen c.args.fabric.now) (seen c.gather_all.new.fabric) o = record {
       kept = kept;
       ends = ends;
       ended = ended;

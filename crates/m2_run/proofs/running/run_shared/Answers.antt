@@ -6,7 +6,7 @@ use Rattle.m2_node.specs.Begins.{AreDoorsOf}
 use Rattle.m2_run.specs.Opened.{AllClosed, HasRoomsFor, OpenedNow}
 use Rattle.m2_run.specs.Ran.{AreLeftBy}
 use Rattle.m2_node.specs.Rooms.{homes_of}
-use Rattle.m2_run.proofs.Runs.{are_left, has_faulted, has_ran, rooms_named, shows_fault}
+use Rattle.m2_run.proofs.Runs.{are_left, has_faulted, has_ran, rooms_named, shows_fault, shows_run}
 use Rattle.m2_node.proofs.Workers.{lent_back}
 use Rattle.m2_run.proofs.running.run_shared.Goals as goal
 
@@ -94,11 +94,8 @@ returns-clause-shown g c =
     (are_left may c.args.limit nodes links lines cuts stopped.0 stopped.1 stopped.2 left all.items closed stopped.3 (c.centers_run_their_course.ensures c.args.clock.now stopped.1)
     (subst (λ (os : List OpenedNow). AllClosed os closed) same c.in-Ok-close_all.ensures)) in
     IfOk-weaker c.finish.result _ _
-    (λ o f. (
-      has_ran may c.args.limit nodes links lines cuts stopped.0 stopped.1 stopped.2 left all.items (seen c.args.fabric.now) (seen c.run_threads-played.new.fabric) (seen c.finish.new.fabric) stopped.3
-          c.requires.cuts c.in-Ok.ensures.out (c.finish.ensures.faults ∙ c.in-Ok.ensures.faults) o (f stopped.2 by stopped.4).0,
-      (f stopped.2 by stopped.4).1,
-    )) c.finish.ensures.shown
+    (λ o f. shows_run may c.args.limit nodes links lines cuts stopped.0 stopped.1 stopped.2 left all.items (seen c.args.fabric.now) (seen c.run_threads-played.new.fabric) (seen c.finish.new.fabric) stopped.3
+    c.requires.cuts c.in-Ok.ensures.out (c.finish.ensures.faults ∙ c.in-Ok.ensures.faults) (λ shown. g.V.Observer.saw shown c.args.observer.now c.finish.new.observer) o (f stopped.2 by stopped.4)) c.finish.ensures.shown
 
 pub returns-clause-fault_shown : goal.returns-clause-fault_shown
 returns-clause-fault_shown g c =
