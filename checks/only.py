@@ -1,7 +1,8 @@
 #!/usr/bin/env python3
 """Checks functions of a crate over the sources of the crates below it, so that none of these has to be proved or built before.
 
-    checks/only.py CRATE [FLAG..] PATH..     a function, or a module or type by its path below the crate; '' reads clauses alone
+    checks/only.py CRATE [FLAG..] PATH..     a function, or a module or type by its path below the crate; the clauses of others
+                                             aren't read
     BUILT=CLONE checks/only.py ..            a library that rt ci or rt lib has built in that clone, of the sources that stand here,
                                              is taken as it is built, which is faster
 
