@@ -29,11 +29,7 @@ use Rattle.m2_trail.specs.Arrivals.{LooseNow}
 use Rattle.m2_turn.specs.Sessions.{PendingNow, AreConsistent, IsSupplied, Supply, is_asker, peer_of}
 use Rattle.m2_center.proofs.EndsHear.{heard_ends}
 use Rattle.m2_turn.proofs.Told.{all_the_same, none_made, nothing_told_on, stay}
-use Rattle.m2_bytes.proofs.m2_lemmas.Booleans.{false_isnt_true}
-
-or_assoc : (a b c : Bool) → (a || b) || c ≡ a || (b || c)
-or_assoc true b c = refl
-or_assoc false b c = refl
+use Rattle.m2_bytes.proofs.m2_lemmas.Booleans.{false_isnt_true, or_assoc}
 
 -- ---- ends in a list
 

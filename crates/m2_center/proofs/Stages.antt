@@ -3,6 +3,7 @@ use Rattle.std.proofs.Common.{◌≡◌, ℕ, ◌-◌, List, Some, OnOk, refl, a
 use Rattle.std.specs.Prelude.{slice_get, slice_set}
 use Rattle.m2_dispatch.specs.Heard.{Heard}
 use Rattle.m2_dispatch.specs.Dispatch.{Queued}
+use Rattle.m2_dispatch.specs.declared.parcel.Parcel.{Parcel}
 use Rattle.m2_fabric.specs.declared.socket.SocketId.{SocketId}
 use Rattle.m2_fabric.specs.Port.{SeenPort}
 use Rattle.m2_journal.specs.declared.facts.PlanStep.{PlanStep}
@@ -21,6 +22,7 @@ use Rattle.m2_center.specs.CenterTurn.{Accepts, Answer, EmptiesMail, TurnsHalves
 use Rattle.m2_center.specs.Plans.{PlansIn, place_towards}
 use Rattle.m2_turn.specs.Halves.{AllHalves, sessions_with}
 use Rattle.m2_turn.specs.HalvesTurn as halves
+use Rattle.m2_turn.specs.HandingOn.{HandsLetters}
 use Rattle.m2_turn.specs.Mailing.{Mails, mailing}
 use Rattle.m2_turn.specs.Outbox.{OutboxNow}
 use Rattle.m2_turn.specs.Planning.{PlansNow}
@@ -57,6 +59,10 @@ module _ {D : Type 0} (was old : CenterNow D) (same : was ≡ old) where
       Mails heard m.throttle.place result (mailing_in was) (mailing out queued bytes) → EmptiesMail heard m result old (record was { out = out; queued = queued; bytes = bytes })
   empties_mail heard m result out queued bytes t =
       subst (λ o. EmptiesMail heard m result o (record was { out = out; queued = queued; bytes = bytes })) same (record { mails = t; only = refl })
+
+  pub hands_letters : (out : OutboxNow D) (queued : Queued D) (bytes : SeenTakePass) (into behind : List Parcel) →
+      HandsLetters (mailing_in was) (mailing out queued bytes) into behind → HandsLetters (mailing_in old) (mailing_in (record was { out = out; queued = queued; bytes = bytes })) into behind
+  hands_letters out queued bytes into behind h = subst (λ o. HandsLetters (mailing_in o) (mailing out queued bytes) into behind) same h
 
   pub plans : (result : Answer) (peer : ℕ) (step : PlanStep) (now : ℕ) (throttle : Place) (place : ℕ) (before behind : RecordNow) (bytes : SeenTakePass) (numbers : SeenNumberPass) →
       place_towards peer was.records ≡ Some place → slice_get was.records place ≡ Some before → PlansNow result step now before behind →

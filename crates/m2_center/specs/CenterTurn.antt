@@ -3,6 +3,7 @@
 use Rattle.std.specs.Prelude.{◌≡◌, ◌⊎◌, ℕ, List, Result, Ok, Err}
 use Rattle.m2_bytes.specs.declared.memory.NoMemory as memory
 use Rattle.m2_dispatch.specs.Heard.{Heard}
+use Rattle.m2_dispatch.specs.declared.parcel.Parcel.{Parcel}
 use Rattle.m2_shared.specs.Numbers.{SeenNumbers}
 use Rattle.m2_shared.specs.Throttle.{SeenThrottle}
 use Rattle.m2_turn.specs.declared.accepting.Accepted.{Accepted}
@@ -16,6 +17,7 @@ use Rattle.m2_turn.specs.declared.records_turn.RecordsTurn.TheVariants as record
 use Rattle.m2_turn.specs.Accepting.{Accepting, AcceptsAll}
 use Rattle.m2_turn.specs.HalfTurn.{Homes}
 use Rattle.m2_turn.specs.HalvesTurn as turns
+use Rattle.m2_turn.specs.HandingOn.{HandsLetters}
 use Rattle.m2_turn.specs.HalvesTurn.{Callers}
 use Rattle.m2_turn.specs.Mailing.{Mailing, Mails, mailing}
 use Rattle.m2_turn.specs.RecordTurn.{Means}
@@ -101,6 +103,10 @@ StepsSo heard m answer old new = (result : RecordsTurn) × (answer ≡ stepped_s
 abbrev pub DeliversSo : {D : Type 0} → (heard : D → List Heard) → Means → Answer → CenterNow D → CenterNow D → Type 0
 DeliversSo heard m answer old new = (result : Mailed) × (answer ≡ delivered_so result) × EmptiesMail heard m result old new
 
+-- and the letters that are dispatched are among the parcels that are last now
+abbrev pub HandsOnSo : {D : Type 0} → (heard : D → List Heard) → Means → (into behind : List Parcel) → Answer → CenterNow D → CenterNow D → Type 0
+HandsOnSo heard m into behind answer old new = DeliversSo heard m answer old new × HandsLetters (mailing_in old) (mailing_in new) into behind
+
 -- ---- a turn
 
 -- a part of a turn, by its answer
@@ -115,6 +121,10 @@ AndThen {D = D} first second (Err e) old new = first (Err e) old new ⊎ ((mid :
 -- all four, one after the other
 abbrev pub TakesTurn : {D : Type 0} → (E : Type 0) → (heard : D → List Heard) → Means → Part D
 TakesTurn E heard m = AndThen AcceptsSo (AndThen (AnswersSo E m) (AndThen (StepsSo heard m) (DeliversSo heard m)))
+
+-- the same, where what is dispatched is handed on
+abbrev pub TakesTurnOn : {D : Type 0} → (E : Type 0) → (heard : D → List Heard) → Means → (into behind : List Parcel) → Part D
+TakesTurnOn E heard m into behind = AndThen AcceptsSo (AndThen (AnswersSo E m) (AndThen (StepsSo heard m) (HandsOnSo heard m into behind)))
 
 -- the moment, and what the threads of the node share
 abbrev pub means_at : (now : ℕ) → SeenNumbers → SeenThrottle → Means

@@ -1,10 +1,11 @@
 //! Whether a center has something to do.
 
-ghost use Rattle.std.specs.Prelude.{◌≡◌, ◌≢◌, None, IfSome};
+ghost use Rattle.std.specs.Prelude.{◌≡◌};
 ghost use Rattle.std.specs.List.{list_all};
 ghost use Rattle.std.specs.Option.{is_some};
 ghost use Rattle.m2_center.specs.CenterTurn.{mailing_in};
 ghost use Rattle.m2_center.specs.Idle.{are_idle, is_delivered, is_idle, is_unheard};
+ghost use Rattle.m2_shared.specs.Throttle.{out_alone};
 ghost use Rattle.m2_turn.specs.Mailing.{is_mailed};
 ghost use Rattle.m2_turn.specs.RecordsTurn as turns;
 
@@ -37,10 +38,9 @@ impl<P: Port, D> Center<P, D> {
         all_idle(self.records.as_slice(), now)
     }
 
-    /// How many bytes the node's throttle has out. None where other threads share it.
+    /// How many bytes the node's throttle has out. None exactly where other threads share it.
     pub fn granted(&self) -> Option<u64>
-        ensures word { IfSome result (λ n. n ≡ self.now.bytes.word) }
-        ensures alone { result ≡ None → self.now.bytes.place ≢ None }
+        ensures { result ≡ out_alone self.now.bytes }
     {
         self.passes.throttle.out()
     }

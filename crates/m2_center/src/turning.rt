@@ -1,7 +1,7 @@
 //! A center's turn.
 
 ghost use Rattle.m2_turn.specs.Beside.{AllKeepCallers, MadeOn, StayConsistent, served};
-ghost use Rattle.m2_center.specs.CenterTurn.{AcceptsSo, AnswersSo, DeliversSo, StepsSo, TakesTurn, accepted_so, answered_so, delivered_so, means_at, memory_in, stepped_so};
+ghost use Rattle.m2_center.specs.CenterTurn.{AcceptsSo, AnswersSo, DeliversSo, HandsOnSo, StepsSo, TakesTurn, TakesTurnOn, accepted_so, answered_so, delivered_so, means_at, memory_in, stepped_so};
 ghost use Rattle.m2_center.specs.Dry.{SaysTurn, ended_so};
 ghost use Rattle.m2_turn.specs.HalfTurn.{homes};
 ghost use Rattle.m2_turn.specs.Handing.{SaysMore, handed_in};
@@ -85,6 +85,7 @@ impl<P: Port, D: Dispatcher> Center<P, D> {
         requires throttle { self.old.bytes.place ≡ shared.now.throttle.place }
         requires shared { IsShared shared.now.throttle.place }
         ensures turns { TakesTurn P.End D.heard (means_at now shared.now.numbers shared.now.throttle) (memory_in result) self.old self.new }
+        ensures dispatched { TakesTurnOn P.End D.heard (means_at now shared.now.numbers shared.now.throttle) into.old.items into.new.items (memory_in result) self.old self.new }
         ensures on { HandsOn D.heard shared.now.throttle.place self.old.queued.inner self.new.queued.inner into.old.items into.new.items }
         ensures says { SaysTurn result self.old self.new }
         ensures numbers { self.new.numbers.place ≡ self.old.numbers.place }
@@ -109,7 +110,7 @@ impl<P: Port, D: Dispatcher> Center<P, D> {
         requires numbers { self.old.numbers.place ≡ shared.now.numbers.place }
         requires throttle { self.old.bytes.place ≡ shared.now.throttle.place }
         requires shared { IsShared shared.now.throttle.place }
-        ensures turns { TakesTurn P.End D.heard (means_at now shared.now.numbers shared.now.throttle) result self.old self.new }
+        ensures turns { TakesTurnOn P.End D.heard (means_at now shared.now.numbers shared.now.throttle) into.old.items into.new.items result self.old self.new }
         ensures on { HandsOn D.heard shared.now.throttle.place self.old.queued.inner self.new.queued.inner into.old.items into.new.items }
         ensures handed { SaysMore handed.old handed.new (handed_in self.old.records) (handed_in self.new.records) }
         ensures numbers { self.new.numbers.place ≡ self.old.numbers.place }
@@ -233,7 +234,7 @@ impl<P: Port, D: Dispatcher> Center<P, D> {
     ) -> Result<(), NoMemory>
         requires throttle { self.old.bytes.place ≡ shared.now.throttle.place }
         requires shared { IsShared shared.now.throttle.place }
-        ensures delivers { DeliversSo D.heard (means_at now shared.now.numbers shared.now.throttle) result self.old self.new }
+        ensures delivers { HandsOnSo D.heard (means_at now shared.now.numbers shared.now.throttle) into.old.items into.new.items result self.old self.new }
         ensures on { HandsOn D.heard shared.now.throttle.place self.old.queued.inner self.new.queued.inner into.old.items into.new.items }
         ensures numbers { self.new.numbers ≡ self.old.numbers }
         ensures throttle { self.new.bytes.place ≡ self.old.bytes.place }

@@ -30,7 +30,7 @@ fault_drops false true idle lost l = refl
 fault_drops false false true lost l = refl
 fault_drops false false false lost l = refl
 
-drops : (l : LiveNow) → (after_fault l).granted ≡ None
+pub drops : (l : LiveNow) → (after_fault l).granted ≡ None
 drops l = fault_drops l.session.policy.lossy l.session.policy.server (l.session.policy.standby && not (is_waiting l)) (phase.is l.session.phase Ready || l.session.lost_ready) l
 
 -- ---- what is held was drawn from the throttle

@@ -1,6 +1,6 @@
 -- The word of a center's pass is what the center holds, behind each turn and behind each step that is planned.
 use Rattle.std.proofs.Common.{◌≡◌, ℕ, ◌+◌, List, [], ◌∷◌, map, Option, None, Some, Ok, Err, inl, inr, refl, sym, subst, ◌∙◌, ap, arith}
-use Rattle.std.specs.Prelude.{◌⊎◌, slice_set}
+use Rattle.std.specs.Prelude.{slice_set}
 use Rattle.std.specs.List.{AllByRecursion}
 use Rattle.std.specs.Option.{option_map}
 use Rattle.m2_dispatch.specs.Heard.{Heard}
@@ -39,7 +39,7 @@ use Rattle.m2_exact.proofs.HeldSteps.{Less}
 use Rattle.m2_exact.proofs.HeldSums as sums
 use Rattle.m2_exact.proofs.HeldSums.{Follows}
 use Rattle.m2_exact.proofs.Lists.{all_like, all_set, heads}
-use Rattle.m2_exact.specs.Holding.{CentersHoldTheirWords, HoldsItsWord, HoldsRightly, IsHeldRightly, LacksInStep, NodeHoldsItsWord, held_in_record, held_in_records, held_in_center}
+use Rattle.m2_exact.specs.Holding.{CentersHoldTheirWords, HoldsItsWord, HoldsRightly, IsHeldRightly, NodeHoldsItsWord, held_in_record, held_in_records, held_in_center}
 
 -- ---- the parts of a turn
 
@@ -81,19 +81,12 @@ module _ {D : Type 0} (E : Type 0) (heard : D → List Heard) (m : Means) (alone
       }
 
   -- where memory ran out in the turn of the records
-  stops_records : (old new : CenterNow D) → HoldsItsWord old → TurnsRecords heard m records.NoMemory old new → (new.bytes.word ≡ held_in_center new) ⊎ LacksInStep heard m new
-  stops_records old new r h = by (all.all_stop heard m alone (all_amid_in old) (all_amid_in new) r.records h.turns)
-    where
-      queued : granted new.queued.waiting ≡ granted old.queued.waiting
-      queued = ap (λ (c : CenterNow D). granted c.queued.waiting) h.only
-
-      held : (word : ℕ) → Follows old.bytes.word word (held_in_records old.records + out.granted_in old.out) (held_in_records new.records + out.granted_in new.out) → word ≡ held_in_center new
-      held word f = let was = r.word in let is = f (granted old.queued.waiting) (omega (arith, was)) in let same = queued in omega (arith, is, same)
-
-      by : Follows old.bytes.word new.bytes.word (held_in_records old.records + out.granted_in old.out) (held_in_records new.records + out.granted_in new.out) ⊎ all.StopsAll heard m alone (all_amid_in old) (all_amid_in new) →
-          (new.bytes.word ≡ held_in_center new) ⊎ LacksInStep heard m new
-      by (inl f) = inl (held new.bytes.word f)
-      by (inr s) = inr (record { mid = s.mid; side = s.side; takes = s.takes; held = held s.mid.bytes.word s.word })
+  stops_records : (old new : CenterNow D) → HoldsItsWord old → TurnsRecords heard m records.NoMemory old new → new.bytes.word ≡ held_in_center new
+  stops_records old new r h =
+      let queued : granted new.queued.waiting ≡ granted old.queued.waiting = ap (λ (c : CenterNow D). granted c.queued.waiting) h.only in
+      let was = r.word in
+      let word = all.all_stop heard m alone (all_amid_in old) (all_amid_in new) r.records h.turns (granted old.queued.waiting) (omega (arith, was)) in
+      omega (arith, word, queued)
 
   -- ---- a turn
 
@@ -114,7 +107,7 @@ module _ {D : Type 0} (E : Type 0) (heard : D → List Heard) (m : Means) (alone
   third : (old new : CenterNow D) → HoldsItsWord old → StepsSo heard m (Ok tt) old new → HoldsItsWord new
   third old new r (result, is, h) = turns_records old new r (subst (λ (x : RecordsTurn). TurnsRecords heard m x old new) (found result is) h)
 
-  third_lacks : (e : memory.NoMemory) (old new : CenterNow D) → HoldsItsWord old → StepsSo heard m (Err e) old new → (new.bytes.word ≡ held_in_center new) ⊎ LacksInStep heard m new
+  third_lacks : (e : memory.NoMemory) (old new : CenterNow D) → HoldsItsWord old → StepsSo heard m (Err e) old new → new.bytes.word ≡ held_in_center new
   third_lacks e old new r (result, is, h) = stops_records old new r (subst (λ (x : RecordsTurn). TurnsRecords heard m x old new) (lacked e result is) h)
 
   fourth : (a : center.Answer) (old new : CenterNow D) → HoldsItsWord old → DeliversSo heard m a old new → HoldsItsWord new
@@ -124,12 +117,12 @@ module _ {D : Type 0} (E : Type 0) (heard : D → List Heard) (m : Means) (alone
   turn old new r (one, a, (two, b, (three, c, d))) =
       fourth (Ok tt) three new (third two three (second (Ok tt) one two (first (Ok tt) old one r a) b) c) d
 
-  pub turn_lacks : (e : memory.NoMemory) (old new : CenterNow D) → HoldsItsWord old → TakesTurn E heard m (Err e) old new → (new.bytes.word ≡ held_in_center new) ⊎ LacksInStep heard m new
-  turn_lacks e old new r (inl a) = inl (first (Err e) old new r a).word
-  turn_lacks e old new r (inr (one, a, inl b)) = inl (second (Err e) one new (first (Ok tt) old one r a) b).word
+  pub turn_lacks : (e : memory.NoMemory) (old new : CenterNow D) → HoldsItsWord old → TakesTurn E heard m (Err e) old new → new.bytes.word ≡ held_in_center new
+  turn_lacks e old new r (inl a) = (first (Err e) old new r a).word
+  turn_lacks e old new r (inr (one, a, inl b)) = (second (Err e) one new (first (Ok tt) old one r a) b).word
   turn_lacks e old new r (inr (one, a, inr (two, b, inl c))) = third_lacks e two new (second (Ok tt) one two (first (Ok tt) old one r a) b) c
   turn_lacks e old new r (inr (one, a, inr (two, b, inr (three, c, d)))) =
-      inl (fourth (Err e) three new (third two three (second (Ok tt) one two (first (Ok tt) old one r a) b) c) d).word
+      (fourth (Err e) three new (third two three (second (Ok tt) one two (first (Ok tt) old one r a) b) c) d).word
 
 -- ---- a step that is planned
 

@@ -1,6 +1,6 @@
 -- What is held by a center's records and where their parcels go, behind the turn of all.
 use Rattle.std.proofs.Common.{◌≡◌, ◌&&◌, ◌||◌, ℕ, ◌+◌, ◌-◌, ◌++◌, List, [], ◌∷◌, Bool, true, false, Option, None, Some, Result, Ok, Err, inl, inr, refl, sym, subst, ◌∙◌, ap, arith}
-use Rattle.std.specs.Prelude.{◌⊎◌, IfSome, IsSome, nat_le}
+use Rattle.std.specs.Prelude.{IfSome, IsSome, nat_le}
 use Rattle.std.specs.List.{AllByRecursion}
 use Rattle.m2_dispatch.specs.Heard.{Heard}
 use Rattle.m2_dispatch.specs.declared.letter.Letter.{Letter}
@@ -25,11 +25,10 @@ use Rattle.m2_script.specs.m2_center.m2_record.Due.{due_step}
 use Rattle.m2_script.specs.m2_center.m2_record.RecordNow.{RecordNow}
 use Rattle.m2_script.specs.m2_center.m2_record.declared.due.Due.{Due}
 use Rattle.m2_script.specs.m2_center.m2_record.declared.due.Due.TheVariants as due
-use Rattle.m2_script.specs.m2_center.m2_record.declared.stepped.Stepped.TheVariants as stepped
 use Rattle.m2_script.specs.m2_center.m2_turn.Connecting.{AtPort, DialsFor, DialsIfDue, Takes}
 use Rattle.m2_script.specs.m2_center.m2_turn.Outbox as out
 use Rattle.m2_script.specs.m2_center.m2_turn.Outbox.{OutboxNow, RetriesFor, held_in, is_free, returned_again}
-use Rattle.m2_script.specs.m2_center.m2_turn.RecordTurn.{Means, TakesStep, Turning, TurnsAs}
+use Rattle.m2_script.specs.m2_center.m2_turn.RecordTurn.{Means, Turning, TurnsAs}
 use Rattle.m2_script.specs.m2_center.m2_turn.RecordsTurn.{AllAmid, Amid, Around, DialsAndSteps, EachTurns, TurnsEach, TurnsIf, amid, at_port, come_to, sides_of, turning_amid}
 use Rattle.m2_script.specs.m2_center.m2_turn.declared.record_turn.RecordTurn.{RecordTurn}
 use Rattle.m2_script.specs.m2_center.m2_turn.declared.record_turn.RecordTurn.TheVariants as one
@@ -143,27 +142,23 @@ module _ {D : Type 0} (heard : D → List Heard) (m : Means) (alone : IsAlone m.
   turns_if true old new r h = dials_and_steps old new r h
   turns_if false old new r h = subst (GoesOne old) (sym h) (record { word = λ rest e. e; right = r })
 
-  -- where memory ran out in a step the word is known before that alone
-  record StopsOne (old new : Amid D) : Type 0 where
-    pub mid : Turning D
-    pub takes : TakesStep heard m stepped.NoMemory mid (turning_amid new.side new.around)
-    pub word : Follows old.around.bytes.word mid.bytes.word (held_in_record old.side + out.granted_in old.around.out) (held_in_record new.side + out.granted_in new.around.out)
-
-  stops_in_step : (old new : Amid D) → HoldsRightly old.side → DialsAndSteps heard m turn.NoMemory old new → StopsOne old new
-  stops_in_step old new r h =
+  stops_in_step : (old new : Amid D) → HoldsRightly old.side → DialsAndSteps heard m turn.NoMemory old new →
+      Follows old.around.bytes.word new.around.bytes.word (held_in_record old.side + out.granted_in old.around.out) (held_in_record new.side + out.granted_in new.around.out)
+  stops_in_step old new r h rest e =
       let first = dials (Ok tt) m.now (at_port old) h.mid r h.dials in
       let second = turns.stops heard m alone (turning_amid h.mid.side old.around) (turning_amid new.side new.around) first.right
       (subst (λ (x : RecordTurn). TurnsAs heard m x (turning_amid h.mid.side old.around) (turning_amid new.side new.around)) (lacks_memory h.ended h.comes) h.turns) in
-      record { mid = second.mid; takes = second.takes; word = λ rest e. (let amount = first.amount in second.word rest (omega (arith, amount, e))) }
+      let amount = first.amount in
+      second rest (omega (arith, amount, e))
 
   stops_if : (free : Bool) (old new : Amid D) → HoldsRightly old.side → TurnsIf free heard m turn.NoMemory old new →
-      Follows old.around.bytes.word new.around.bytes.word (held_in_record old.side + out.granted_in old.around.out) (held_in_record new.side + out.granted_in new.around.out) ⊎ StopsOne old new
+      Follows old.around.bytes.word new.around.bytes.word (held_in_record old.side + out.granted_in old.around.out) (held_in_record new.side + out.granted_in new.around.out)
   stops_if true old new r (inl h) =
       let side = (dials (Err (record {})) m.now (at_port old) (at_port new) r h.dials).amount in
       let word = ap (λ (x : Around D). x.bytes.word) h.only in
       let all = ap (λ (x : Around D). out.granted_in x.out) h.only in
-      inl (λ rest e. omega (arith, side, word, all, e))
-  stops_if true old new r (inr h) = inr (stops_in_step old new r h)
+      λ rest e. omega (arith, side, word, all, e)
+  stops_if true old new r (inr h) = stops_in_step old new r h
   stops_if false old new r h = absurd h
 
   -- ---- all of them
@@ -215,16 +210,9 @@ module _ {D : Type 0} (heard : D → List Heard) (m : Means) (alone : IsAlone m.
 
   -- ---- a turn of all in which memory ran out
 
-  -- in a step of a record, before which the word was what is held
-  pub record StopsAll (old new : AllAmid D) : Type 0 where
-    pub mid : Turning D
-    pub side : RecordNow
-    pub takes : TakesStep heard m stepped.NoMemory mid (turning_amid side new.around)
-    pub word : Follows old.around.bytes.word mid.bytes.word (held_amid old.records old.around) (held_amid new.records new.around)
-
   pub all_stop : (old new : AllAmid D) → AllByRecursion HoldsRightly old.records → TurnsEach heard m turn.NoMemory old new →
-      Follows old.around.bytes.word new.around.bytes.word (held_amid old.records old.around) (held_amid new.records new.around) ⊎ StopsAll old new
-  all_stop old new r h = by_stop (stops_if (is_free h.turns.mid.out) (amid h.turns.at h.turns.mid) (amid h.turns.left new.around) (all_back HoldsRightly h.turns.before (h.turns.at ∷ h.turns.rest) split).0 h.turns.stops)
+      Follows old.around.bytes.word new.around.bytes.word (held_amid old.records old.around) (held_amid new.records new.around)
+  all_stop old new r h = joined (stops_if (is_free h.turns.mid.out) (amid h.turns.at h.turns.mid) (amid h.turns.left new.around) (all_back HoldsRightly h.turns.before (h.turns.at ∷ h.turns.rest) split).0 h.turns.stops)
     where
       split : AllByRecursion HoldsRightly (h.turns.before ++ h.turns.at ∷ h.turns.rest)
       split = subst (AllByRecursion HoldsRightly) h.turns.split r
@@ -236,9 +224,9 @@ module _ {D : Type 0} (heard : D → List Heard) (m : Means) (alone : IsAlone m.
       those = each h.turns.before h.turns.stood h.retried h.turns.mid (all_front HoldsRightly h.turns.before (h.turns.at ∷ h.turns.rest) split) h.turns.turns
 
       -- up to the record at which it stops, and that one
-      joined : (word : ℕ) → Follows h.turns.mid.bytes.word word (held_in_record h.turns.at + out.granted_in h.turns.mid.out) (held_in_record h.turns.left + out.granted_in new.around.out) →
-          Follows old.around.bytes.word word (held_amid old.records old.around) (held_amid new.records new.around)
-      joined word last rest e =
+      joined : Follows h.turns.mid.bytes.word new.around.bytes.word (held_in_record h.turns.at + out.granted_in h.turns.mid.out) (held_in_record h.turns.left + out.granted_in new.around.out) →
+          Follows old.around.bytes.word new.around.bytes.word (held_amid old.records old.around) (held_amid new.records new.around)
+      joined last rest e =
           let was = ap held_in_records h.turns.split ∙ sums.sum_behind held_in_record h.turns.before (h.turns.at ∷ h.turns.rest) in
           let at = sums.sum_first held_in_record h.turns.at h.turns.rest in
           let is = ap held_in_records h.turns.records ∙ sums.sum_behind held_in_record (sides_of h.turns.stood) (h.turns.left ∷ h.turns.rest) in
@@ -247,8 +235,3 @@ module _ {D : Type 0} (heard : D → List Heard) (m : Means) (alone : IsAlone m.
           let two = those.word (held_in_record h.turns.at + held_in_records h.turns.rest + rest) (omega (arith, was, at, one)) in
           let three = last (held_in_records (sides_of h.turns.stood) + held_in_records h.turns.rest + rest) (omega (arith, two)) in
           omega (arith, is, left, three)
-
-      by_stop : Follows h.turns.mid.bytes.word new.around.bytes.word (held_in_record h.turns.at + out.granted_in h.turns.mid.out) (held_in_record h.turns.left + out.granted_in new.around.out) ⊎
-          StopsOne (amid h.turns.at h.turns.mid) (amid h.turns.left new.around) → Follows old.around.bytes.word new.around.bytes.word (held_amid old.records old.around) (held_amid new.records new.around) ⊎ StopsAll old new
-      by_stop (inl last) = inl (joined new.around.bytes.word last)
-      by_stop (inr stop) = inr (record { mid = stop.mid; side = h.turns.left; takes = stop.takes; word = joined stop.mid.bytes.word stop.word })

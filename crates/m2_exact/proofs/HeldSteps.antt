@@ -51,7 +51,7 @@ use Rattle.m2_script.specs.m2_center.m2_record.Framing.{AnswersFront, Frames, Gr
 use Rattle.m2_script.specs.m2_center.m2_record.IsRecord.{IsRecord}
 use Rattle.m2_script.specs.m2_center.m2_record.Reading.{CountsAnswer, EndsRead, Reads, answer_by, answer_heard, fault_read, faulted_or}
 use Rattle.m2_script.specs.m2_center.m2_record.RecordNow.{RecordNow}
-use Rattle.m2_script.specs.m2_center.m2_record.Stepping.{HandsAs, NothingDone, PlansAs, StepsAs, StepsBy, Worked, answer_composed, answer_framed, answer_planned, answer_put, returned_planned}
+use Rattle.m2_script.specs.m2_center.m2_record.Stepping.{FindsNoMemory, HandsAs, PlansAs, StepsAs, StepsBy, Worked, answer_composed, answer_framed, answer_planned, answer_put, returned_planned}
 use Rattle.m2_script.specs.m2_center.m2_record.declared.composing.Composed.{Composed}
 use Rattle.m2_script.specs.m2_center.m2_record.declared.composing.Composed.TheVariants as composed
 use Rattle.m2_script.specs.m2_center.m2_record.declared.due.Due.{Due}
@@ -583,6 +583,7 @@ steps_on w old new alone is r k h =
     (steps.compose_is_due w.now mid) taken in
     record { word = λ rest e. stepped.word rest (omega (arith, held, e)); right = stepped.right }
 
--- for want of memory a record holds what it held
-pub lacks : (old new : RecordNow) → NothingDone old new → held_in_record new ≡ held_in_record old
-lacks old new h = ap held_in_record h.only
+-- for want of memory a record holds what it held, and nothing is granted or given back
+pub lacks : (w : Worked) (old new : RecordNow) → IsAlone w.bytes.throttle.place → FindsNoMemory w old new →
+    Follows w.bytes.before.word w.bytes.behind.word (held_in_record old) (held_in_record new)
+lacks w old new alone h = sums.stays w.bytes.before.word w.bytes.behind.word (held_in_record old) (held_in_record new) (h.bytes alone) (ap held_in_record h.nothing.only)

@@ -156,14 +156,12 @@ module _ {D : Type 0} (heard : D → List Heard) where
 
     -- ---- a turn in which memory ran out
 
-    -- Of what the last step did to the pass nothing is said: where it left the word, this is what is held.
-    pub record Stops (old new : Turning D) : Type 0 where
-      pub mid : Turning D
-      pub takes : TakesStep heard m stepped.NoMemory mid new
-      pub word : Follows old.bytes.word mid.bytes.word (held_turning old) (held_turning new)
-
-    stopped_held : (mid new : Turning D) → TakesStep heard m stepped.NoMemory mid new → held_turning new ≡ held_turning mid
-    stopped_held mid new h = let side = steps.lacks mid.side new.side h.steps in let all = ap out.granted_in h.puts in omega (arith, side, all)
+    stopped : (mid new : Turning D) → TakesStep heard m stepped.NoMemory mid new → Follows mid.bytes.word new.bytes.word (held_turning mid) (held_turning new)
+    stopped mid new h rest e =
+        let side = steps.lacks (worked_by m stepped.NoMemory h.behind mid new) mid.side new.side alone h.steps (out.granted_in mid.out + rest) (omega (arith, e)) in
+        let word = ap (λ (p : SeenTakePass). p.word) h.gives in
+        let all = ap out.granted_in h.puts in
+        omega (arith, side, word, all)
 
     without : (a : Stepped) → EndsWith turn.NoMemory a → a ≡ stepped.NoMemory
     without stepped.NoMemory h = refl
@@ -175,9 +173,8 @@ module _ {D : Type 0} (heard : D → List Heard) where
     without stepped.Spent h = absurd h
     without (stepped.Faulted cause) h = absurd h
 
-    pub stops : (old new : Turning D) → HoldsRightly old.side → TurnsAs heard m turn.NoMemory old new → Stops old new
+    pub stops : (old new : Turning D) → HoldsRightly old.side → TurnsAs heard m turn.NoMemory old new → Follows old.bytes.word new.bytes.word (held_turning old) (held_turning new)
     stops old new r h =
         let one = all_steps h.led.stood old h.mid r h.led.steps in
         let takes = subst (λ (a : Stepped). TakesStep heard m a h.mid new) (without h.answer h.ends) h.takes in
-        let held = stopped_held h.mid new takes in
-        record { mid = h.mid; takes = takes; word = λ rest e. (let is = one.word rest e in omega (arith, is, held)) }
+        sums.along old.bytes.word h.mid.bytes.word new.bytes.word (held_turning old) (held_turning h.mid) (held_turning new) one.word (stopped h.mid new takes)

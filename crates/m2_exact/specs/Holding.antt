@@ -1,6 +1,6 @@
 -- What a node holds of what its throttle has granted, and that the throttle's word is just that. That a grant goes along with its
 -- message until this is dispatched or thrown away is Ceph's rule; the rest is this project's own.
-use Rattle.std.specs.Prelude.{◌≡◌, ◌⊎◌, ℕ, ◌+◌, true, List, [], ◌∷◌, length, sum_by, IfSome, Ok, Err}
+use Rattle.std.specs.Prelude.{◌≡◌, ℕ, ◌+◌, true, List, [], ◌∷◌, length, sum_by, IfSome, Ok, Err}
 use Rattle.std.specs.List.{AllByRecursion}
 use Rattle.m2_dispatch.specs.Heard.{Heard, heard_by}
 use Rattle.m2_dispatch.specs.Letters.{granted}
@@ -21,9 +21,8 @@ use Rattle.m2_script.specs.m2_center.m2_feed.m2_journal.Laws.{SessionIsSound}
 use Rattle.m2_script.specs.m2_center.m2_feed.m2_journal.SideFacts.{SideFacts}
 use Rattle.m2_script.specs.m2_center.m2_record.Calls.{all_granted}
 use Rattle.m2_script.specs.m2_center.m2_record.RecordNow.{RecordNow}
-use Rattle.m2_script.specs.m2_center.m2_record.declared.stepped.Stepped.TheVariants as stepped
 use Rattle.m2_script.specs.m2_center.m2_turn.Outbox.{granted_in}
-use Rattle.m2_script.specs.m2_center.m2_turn.RecordTurn.{Means, TakesStep, Turning}
+use Rattle.m2_script.specs.m2_center.m2_turn.RecordTurn.{Means}
 use Rattle.m2_script.specs.m2_cluster.Node.{NodeNow}
 use Rattle.m2_script.specs.m2_center.m2_feed.m2_journal.declared.facts.PlanStep.{PlanStep}
 
@@ -67,19 +66,11 @@ pub record NodeHoldsItsWord {D : Type 0} (n : NodeNow D) : Type 0 where
   pub alone : IsAlone n.throttle.place
   pub center : HoldsItsWord n.center
 
--- A record's step found no memory. Of what it did to the pass nothing is said; the word before it is what is held behind it.
-pub record LacksInStep {D : Type 0} (heard : D → List Heard) (m : Means) (new : CenterNow D) : Type 0 where
-  pub mid : Turning D
-  pub side : RecordNow
-  pub takes : TakesStep heard m stepped.NoMemory mid (record { side = side; out = new.out; bytes = new.bytes; numbers = new.numbers })
-  pub held : mid.bytes.word ≡ held_in_center new
-
--- Behind each turn of a center the word is what it holds, where it was so before and no thread shares the word; and so it is behind a step
--- that is planned. For want of memory it is so too, but where a record's step found none.
+-- Behind each turn of a center the word is what it holds, also where memory ran out in it, if it was so before and no thread shares the
+-- word; and so it is behind a step that is planned.
 pub record CentersHoldTheirWords (E D : Type 0) (heard : D → List Heard) : Type 0 where
   pub turns : (m : Means) (old new : CenterNow D) → IsAlone m.throttle.place → HoldsItsWord old → TakesTurn E heard m (Ok tt) old new → HoldsItsWord new
-  pub lacks : (m : Means) (e : memory.NoMemory) (old new : CenterNow D) → IsAlone m.throttle.place → HoldsItsWord old → TakesTurn E heard m (Err e) old new →
-      (new.bytes.word ≡ held_in_center new) ⊎ LacksInStep heard m new
+  pub lacks : (m : Means) (e : memory.NoMemory) (old new : CenterNow D) → IsAlone m.throttle.place → HoldsItsWord old → TakesTurn E heard m (Err e) old new → new.bytes.word ≡ held_in_center new
   pub plans : (peer : ℕ) (x : PlanStep) (now : ℕ) (throttle : Place) (old new : CenterNow D) → IsAlone throttle → HoldsItsWord old → PlansIn (Ok tt) peer x now throttle old new → HoldsItsWord new
 
 -- ---- a run

@@ -180,8 +180,8 @@ pub fn runs_are_one<E: End>()
 
 /// At each node of a run in memory the word of the throttle is just what the node holds: what its records were granted for messages that
 /// aren't finished and for letters that are ready, and the letters in its outbox and in its queue. Before the first line both are 0, and
-/// each deed keeps it so. So does each turn of a center, and each step that is planned, where no thread shares the word; for want of memory
-/// too, but that nothing is said of what a record's step that finds none did to the pass.
+/// each deed keeps it so. So does each turn of a center, also one in which memory ran out, and each step that is planned, where no thread
+/// shares the word.
 #[tactic(auto, using(crate::proofs::HeldCenters::centers, crate::proofs::HeldRuns::runs))]
 pub fn words_are_held<E: End, D: Dispatcher>()
     ensures centers { holding.CentersHoldTheirWords E D D.heard }

@@ -434,7 +434,7 @@ nothing_done old new n = stays old new (ap fixed_of n.only) (ap (λ r. r.spent) 
     (record { phase = ap (λ (r : RecordNow). r.core.live.session.phase) n.only; feed = memory_feed old.core.live.feed new.core.live.feed n.feed })
 
 pub steps : (answer : Stepped) (w : Worked) (old new : RecordNow) → StepsAs answer w old new → MovesOn old new
-steps stepped.NoMemory w old new n = nothing_done old new n
+steps stepped.NoMemory w old new n = nothing_done old new n.nothing
 steps stepped.Moved w old new (mid, room, due) = takes_due w old mid new room due
 steps (stepped.Hand x) w old new (mid, room, due) = takes_due w old mid new room due
 steps stepped.Dry w old new (mid, room, due) = takes_due w old mid new room due

@@ -3,6 +3,7 @@ use Rattle.std.proofs.Common.{◌≡◌, inl, inr, ℕ, zero, suc, ◌+◌, ◌<
 use Rattle.std.specs.List.{AllByRecursion, flat_map, list_any}
 use Rattle.std.proofs.lemmas.List.{length-append, length-map, map-append}
 use Rattle.std.proofs.lemmas.List.Concat.{flat_map-append}
+use Rattle.m2_bytes.proofs.m2_lemmas.Booleans.{or_assoc}
 use Rattle.m2_bytes.proofs.m2_lemmas.Lists.{all_last}
 use Rattle.m2_trail.specs.Incoming.{IncomingNow}
 use Rattle.m2_trail.specs.Arrivals.{LooseNow}
@@ -35,10 +36,6 @@ or_none true = refl
 pub or_some : (b : Bool) → true ≡ b || true
 or_some false = refl
 or_some true = refl
-
-or_assoc : (a b c : Bool) → (a || b) || c ≡ a || (b || c)
-or_assoc false b c = refl
-or_assoc true b c = refl
 
 any_last : (turned : List Shaken) (s : Shaken) → list_any (λ (t : Shaken). is_busy t.turn) turned || is_busy s.turn ≡ list_any (λ (t : Shaken). is_busy t.turn) (turned ++ s ∷ [])
 any_last [] s = or_none (is_busy s.turn)

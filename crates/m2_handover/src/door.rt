@@ -13,6 +13,7 @@ use crate::names::Inboxes;
 use crate::way::Way;
 use m2_bytes::{Items, NoMemory};
 use m2_fabric::{End, EndLog, Port, Taken};
+use m2_journal::EntryList;
 use m2_trail::{
     Arrival, HalfTurn, Incoming, Loose, LooseList, MOST_READ, advance, turns_leave_the_half,
 };
@@ -161,7 +162,7 @@ impl<E: End, B: Inboxes<E>> Door<E, B> {
         ensures came { HaveCome self.old self.new }
         ensures sockets { TakesIn (P.seen port.old).made (P.seen port.new).made self.old self.new }
     {
-        let mut entries = Items::empty(self.alloc);
+        let mut entries = EntryList::empty(self.alloc);
         if self.over.reserve(1).is_err() || entries.reserve(1).is_err() {
             return Some(DoorTurn::NoMemory);
         }

@@ -7,7 +7,7 @@
 //! on with it sees a socket that it accepted itself. [`HomeRest`] is what is left of a port, [`close_inbox`] gives what is left
 //! in an inbox, and [`half_inside`] makes of a half of such an end one of the end inside. [`Inboxes`] lends the inboxes, and
 //! [`InboxNames`] names them, for contracts alone. It passes on what crates above name of inboxes ([`Inbox`], [`PutPass`],
-//! [`GetPass`], [`MOST_ARRIVALS`]). What it isn't: a thread; `m2_run` has those.
+//! [`GetPass`], [`MOST_ARRIVALS`]). What it isn't: a thread; `m2_node` has those.
 //!
 //! Each socket is in one place, whatever the schedule. A port keeps of all that the port inside has made and all that was taken
 //! out of its inbox, that each is one that it has made itself, or is still to be accepted, or stands at its door, or was handed

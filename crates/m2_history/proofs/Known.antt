@@ -1,7 +1,7 @@
 -- Sockets that journals speak of, by their names.
-use Rattle.std.proofs.Common.{◌≡◌, ℕ, ◌+◌, ◌<◌, ◌≤◌, if◌then◌else◌, ◌||◌, Bool, true, false, List, [], ◌∷◌, ◌++◌, length, map, drop, refl, sym, ap, ◌∙◌, arith, append_assoc}
-use Rattle.std.specs.Prelude.{replicate, slice_index, slice_index_or}
-use Rattle.std.proofs.lemmas.List.{drop_more, map-append, get_or_past, get_or-replicate}
+use Rattle.std.proofs.Common.{◌≡◌, ℕ, ◌+◌, ◌≤◌, if◌then◌else◌, ◌||◌, Bool, true, false, List, [], ◌∷◌, ◌++◌, length, map, refl, sym, ap, ◌∙◌, arith, append_assoc}
+use Rattle.std.specs.Prelude.{replicate, slice_index}
+use Rattle.std.proofs.lemmas.List.{map-append, get_or_past, get_or-replicate}
 use Rattle.std.proofs.lemmas.List.Folds.{list_any-append}
 use Rattle.m2_fabric.specs.declared.socket.SocketId.{SocketId}
 use Rattle.m2_fabric.specs.End.{SeenEnd}
@@ -108,15 +108,6 @@ times_at names judged js k are = at (is_among k names) refl
         let both = neither (knows js.a k) (knows js.b k) (sym (among_both names judged js k are) ∙ e) in
         let none = get_or_past judged (place_in names k) 0 (omega (arith, are.count, past names k e)) in
         omega (arith, none, none-known k js.a both.0, none-known k js.b both.1)
-
--- one entry more of a journal
-judged-suc : (k : SocketId) (es : List Entry) (n : ℕ) (d : Entry) → n < length es →
-    judged_by k (Noted (slice_index_or es n d)) + total (judged_by k) (map Noted (drop (n + 1) es)) ≡ total (judged_by k) (map Noted (drop n es))
-judged-suc k es n d h = sym (ap (λ l. total (judged_by k) (map Noted l)) (drop_more es n d h))
-
-pub one_judged : (k : SocketId) (es : List Entry) (n : ℕ) (d : Entry) (old new start : ℕ) → n < length es → new ≡ old + judged_by k (Noted (slice_index_or es n d)) →
-    old + total (judged_by k) (map Noted (drop n es)) ≡ start + total (judged_by k) (map Noted es) → new + total (judged_by k) (map Noted (drop (n + 1) es)) ≡ start + total (judged_by k) (map Noted es)
-one_judged k es n d old new start h more before = omega (arith, more, before, judged-suc k es n d h)
 
 -- of both journals, counted from nothing
 pub both_counted : (names : List SocketId) (none first all : List ℕ) (a b : List Entry) → none ≡ replicate (length names) 0 →

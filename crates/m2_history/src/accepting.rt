@@ -6,22 +6,22 @@ ghost use Rattle.m2_history.specs.Counted as counted;
 use crate::keys::is_key;
 use crate::side::Side;
 use m2_fabric::End;
-use m2_journal::Entry;
+use m2_journal::{Entry, EntryList};
 use m2_policy::Key;
 
 /// How many messages of this key a side has accepted of its peer.
 pub fn accepted<E: End>(side: &Side<'_, E>, key: Key) -> u64
     ensures { result ≡ counted.accepted key side.now.record.now.journal }
 {
-    accepted_in(side.record.journal().as_slice(), key)
+    accepted_in(side.record.journal(), key)
 }
 
-fn accepted_in(journal: &[Entry], key: Key) -> u64
-    ensures { result ≡ counted.accepted key journal.now }
+fn accepted_in(journal: &EntryList, key: Key) -> u64
+    ensures { result ≡ counted.accepted key journal.now.items }
 {
     let mut count: u64 = 0;
-    for e in journal {
-        if is_accepted(e, key) {
+    for e in journal.iter() {
+        if is_accepted(&e, key) {
             count += 1;
         }
     }

@@ -11,7 +11,7 @@ ghost use Rattle.m2_trail.specs.Trails.{trail_now};
 
 use crate::side::Side;
 use m2_fabric::{End, SocketId};
-use m2_journal::Entry;
+use m2_journal::{Entry, EntryList};
 use m2_record::behind_judged;
 use m2_trail::{Loose, LooseList, Trail};
 
@@ -21,8 +21,8 @@ use m2_trail::{Loose, LooseList, Trail};
 pub fn are_of_link<E: End>(a: &Side<'_, E>, b: &Side<'_, E>, loose: &LooseList<E>) -> bool
     ensures { OnTrue result (AreOfLink (both_of a.now.record.now b.now.record.now loose.now.items)) }
 {
-    let near = a.record.journal().as_slice();
-    let far = b.record.journal().as_slice();
+    let near = a.record.journal();
+    let far = b.record.journal();
     let halves = loose.as_slice();
     if !have_halves(near, a.record.trails().as_slice(), halves) {
         return false;
@@ -37,11 +37,11 @@ pub fn are_of_link<E: End>(a: &Side<'_, E>, b: &Side<'_, E>, loose: &LooseList<E
 
 /// Whether the half of each ask that a journal judged is one of these.
 #[tactic(auto, using(crate::proofs::Halves::halves_more))]
-fn have_halves<E: End>(journal: &[Entry], trails: &[Trail], loose: &[Loose<E>]) -> bool
-    ensures { OnTrue result (HaveHalves (map trail_now trails.now) loose.now (judgements_in journal.now)) }
+fn have_halves<E: End>(journal: &EntryList, trails: &[Trail], loose: &[Loose<E>]) -> bool
+    ensures { OnTrue result (HaveHalves (map trail_now trails.now) loose.now (judgements_in journal.now.items)) }
 {
-    for e in journal {
-        if !has_half(e, trails, loose) {
+    for e in journal.iter() {
+        if !has_half(&e, trails, loose) {
             return false;
         }
     }
@@ -91,8 +91,8 @@ fn is_left<E: End>(socket: &SocketId, loose: &[Loose<E>]) -> bool
 // ---- what the halves were told
 
 /// Whether each of these halves was told what both journals have judged on its socket.
-fn are_judged_so<E: End>(near: &[Entry], far: &[Entry], loose: &[Loose<E>]) -> bool
-    ensures { OnTrue result (AllByRecursion (IsJudgedSo (judgements_in near.now ++ judgements_in far.now)) loose.now) }
+fn are_judged_so<E: End>(near: &EntryList, far: &EntryList, loose: &[Loose<E>]) -> bool
+    ensures { OnTrue result (AllByRecursion (IsJudgedSo (judgements_in near.now.items ++ judgements_in far.now.items)) loose.now) }
 {
     for half in loose {
         if !is_judged_so(near, far, half) {
@@ -103,8 +103,8 @@ fn are_judged_so<E: End>(near: &[Entry], far: &[Entry], loose: &[Loose<E>]) -> b
 }
 
 /// The same of one half.
-fn is_judged_so<E: End>(near: &[Entry], far: &[Entry], half: &Loose<E>) -> bool
-    ensures { OnTrue result (IsJudgedSo (judgements_in near.now ++ judgements_in far.now) half.now) }
+fn is_judged_so<E: End>(near: &EntryList, far: &EntryList, half: &Loose<E>) -> bool
+    ensures { OnTrue result (IsJudgedSo (judgements_in near.now.items ++ judgements_in far.now.items) half.now) }
 {
     let trail = half.trail();
     if !judges(near, &trail.socket) && !judges(far, &trail.socket) {
@@ -121,11 +121,11 @@ fn is_judged_so<E: End>(near: &[Entry], far: &[Entry], half: &Loose<E>) -> bool
 
 /// Whether a journal has judged an ask on a socket.
 #[tactic(auto, using(crate::proofs::Halves::judges_more))]
-fn judges(journal: &[Entry], socket: &SocketId) -> bool
-    ensures { result ≡ is_among socket.now (map (λ j. j.socket) (judgements_in journal.now)) }
+fn judges(journal: &EntryList, socket: &SocketId) -> bool
+    ensures { result ≡ is_among socket.now (map (λ j. j.socket) (judgements_in journal.now.items)) }
 {
-    for e in journal {
-        if judges_on(e, socket) {
+    for e in journal.iter() {
+        if judges_on(&e, socket) {
             return true;
         }
     }

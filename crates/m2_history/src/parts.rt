@@ -10,7 +10,7 @@ ghost use Rattle.m2_trail.specs.Trails.{trail_now};
 use crate::sockets::opened_in;
 use m2_bytes::NoMemory;
 use m2_fabric::{End, EndLog, SocketId};
-use m2_journal::Entry;
+use m2_journal::EntryList;
 use m2_trail::{Loose, Trail};
 use m2_weave::SocketNames;
 use std::alloc::Global;
@@ -22,7 +22,7 @@ use std::marker::Model;
 /// Maker: [`of`](Parts::of).
 #[derive(Drop)]
 pub struct Parts<'a, E: End> {
-    journal: &'a [Entry],
+    journal: &'a EntryList,
     trails: &'a [Trail],
     feed: Option<&'a E>,
     spent: &'a [E],
@@ -37,7 +37,7 @@ impl<'a, E: End> Model for Parts<'a, E> {
     ghost Value = { PartsNow };
 
     ghost view = { λ p. record {
-      journal = p.journal.now;
+      journal = p.journal.now.items;
       trails = map trail_now p.trails.now;
       ends = option_to_list (option_map (λ e. E.seen e.now) p.feed) ++ map E.seen p.spent.now;
     } };
@@ -46,13 +46,13 @@ impl<'a, E: End> Model for Parts<'a, E> {
 impl<'a, E: End> Parts<'a, E> {
     /// A record's journal, its trails, its feed and its spent ends.
     pub fn of(
-        journal: &'a [Entry],
+        journal: &'a EntryList,
         trails: &'a [Trail],
         feed: Option<&'a E>,
         spent: &'a [E],
     ) -> Parts<'a, E>
         ensures { result ≡ record {
-          journal = journal.now;
+          journal = journal.now.items;
           trails = map trail_now trails.now;
           ends = option_to_list (option_map (λ e. E.seen e.now) feed.entry) ++ map E.seen spent.now;
         } }
@@ -65,8 +65,8 @@ impl<'a, E: End> Parts<'a, E> {
         }
     }
 
-    pub(crate) fn journal(&self) -> &'a [Entry]
-        ensures { result.now ≡ self.now.journal }
+    pub(crate) fn journal(&self) -> &'a EntryList
+        ensures { result.now.items ≡ self.now.journal }
     {
         self.journal
     }

@@ -9,7 +9,7 @@ use crate::keys::{MessageList, is_key, key_at, push_copy};
 use crate::side::Side;
 use m2_bytes::{Items, NoMemory};
 use m2_fabric::End;
-use m2_journal::{Entry, PlanStep};
+use m2_journal::{Entry, EntryList, PlanStep};
 use m2_policy::{FastSet, Key};
 use std::alloc::Global;
 
@@ -28,7 +28,7 @@ pub fn posted<E: End>(
         side.record.plan().as_slice(),
         to,
         key,
-        side.record.journal().as_slice(),
+        side.record.journal(),
     )
 }
 
@@ -38,13 +38,13 @@ fn posted_in(
     plan: &[PlanStep],
     to: &FastSet,
     key: Key,
-    journal: &[Entry],
+    journal: &EntryList,
 ) -> Result<MessageList, NoMemory>
-    ensures { IfOk result (λ l. map content_of l.items ≡ counted.posted plan.now to.now key journal.now) }
+    ensures { IfOk result (λ l. map content_of l.items ≡ counted.posted plan.now to.now key journal.now.items) }
 {
     let mut all = Items::empty(alloc);
-    for e in journal {
-        post_one(&mut all, plan, to, key, e)?;
+    for e in journal.iter() {
+        post_one(&mut all, plan, to, key, &e)?;
     }
     Ok(all)
 }

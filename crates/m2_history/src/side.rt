@@ -24,7 +24,7 @@ impl<'a, E: End> Side<'a, E> {
         ensures { result ≡ parts_of self.now.record.now }
     {
         Parts::of(
-            self.record.journal().as_slice(),
+            self.record.journal(),
             self.record.trails().as_slice(),
             self.record.feed(),
             self.record.spent(),

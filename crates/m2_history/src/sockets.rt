@@ -10,7 +10,7 @@ ghost use Rattle.m2_weave.specs.Table.{KeepsNumbers};
 
 use m2_bytes::NoMemory;
 use m2_fabric::SocketId;
-use m2_journal::Entry;
+use m2_journal::{Entry, EntryList};
 use m2_weave::SocketNames;
 use std::alloc::Global;
 use std::marker::Model;
@@ -26,12 +26,12 @@ fn add_opened(names: &mut Vec<SocketId>, e: &Entry) -> Result<(), NoMemory>
 }
 
 /// The sockets that a journal has opened.
-pub(crate) fn opened_in(alloc: Global, journal: &[Entry]) -> Result<SocketNames, NoMemory>
-    ensures { IfOk result (λ names. names ≡ opened_in journal.now) }
+pub(crate) fn opened_in(alloc: Global, journal: &EntryList) -> Result<SocketNames, NoMemory>
+    ensures { IfOk result (λ names. names ≡ opened_in journal.now.items) }
 {
     let mut names = Vec::new(alloc);
-    for e in journal {
-        add_opened(&mut names, e)?;
+    for e in journal.iter() {
+        add_opened(&mut names, &e)?;
     }
     SocketNames::of(alloc, names)
 }
@@ -74,11 +74,11 @@ fn add_known(names: &mut Vec<SocketId>, e: &Entry) -> Result<(), NoMemory>
 }
 
 /// Appends those of a journal.
-fn add_all_known(names: &mut Vec<SocketId>, journal: &[Entry]) -> Result<(), NoMemory>
-    ensures { OnOk result (names.new.items ≡ names.old.items ++ known_in journal.now) }
+fn add_all_known(names: &mut Vec<SocketId>, journal: &EntryList) -> Result<(), NoMemory>
+    ensures { OnOk result (names.new.items ≡ names.old.items ++ known_in journal.now.items) }
 {
-    for e in journal {
-        add_known(names, e)?;
+    for e in journal.iter() {
+        add_known(names, &e)?;
     }
     Ok(())
 }
@@ -106,15 +106,15 @@ fn count_judged(names: &SocketNames, judged: &mut Vec<u64>, e: &Entry) -> Result
 fn count_all_judged(
     names: &SocketNames,
     judged: &mut Vec<u64>,
-    journal: &[Entry],
+    journal: &EntryList,
 ) -> Result<(), NoMemory>
     requires count { length judged.old.items ≡ length names.now }
     ensures count { length judged.new.items ≡ length names.now }
     ensures counted { OnOk result (KeepsNumbers names.now
-        (λ k. slice_index judged.old.items (place_in names.now k) + total (judged_by k) (journal_of journal.now).items) judged.new.items) }
+        (λ k. slice_index judged.old.items (place_in names.now k) + total (judged_by k) (journal_of journal.now.items).items) judged.new.items) }
 {
-    for e in journal {
-        count_judged(names, judged, e)?;
+    for e in journal.iter() {
+        count_judged(names, judged, &e)?;
     }
     Ok(())
 }
@@ -130,8 +130,8 @@ fn zeros(alloc: Global, n: usize) -> Result<Vec<u64>, NoMemory>
 /// journals.
 #[derive(Drop)]
 pub(crate) struct KnownSockets<'a> {
-    a: &'a [Entry],
-    b: &'a [Entry],
+    a: &'a EntryList,
+    b: &'a EntryList,
     names: SocketNames,
     judged: Vec<u64>,
 }
@@ -141,19 +141,19 @@ impl<'a> Model for KnownSockets<'a> {
 
     ghost Value = { JournalsNow };
 
-    ghost view = { λ s. record { a = s.a.now; b = s.b.now } };
+    ghost view = { λ s. record { a = s.a.now.items; b = s.b.now.items } };
 
-    ghost invariant = { λ s. AreKnown s.names s.judged.items (record { a = s.a.now; b = s.b.now }) };
+    ghost invariant = { λ s. AreKnown s.names s.judged.items (record { a = s.a.now.items; b = s.b.now.items }) };
 }
 
 impl<'a> KnownSockets<'a> {
     /// Those of these two journals.
     pub(crate) fn of(
         alloc: Global,
-        a: &'a [Entry],
-        b: &'a [Entry],
+        a: &'a EntryList,
+        b: &'a EntryList,
     ) -> Result<KnownSockets<'a>, NoMemory>
-        ensures { IfOk result (λ s. s ≡ record { a = a.now; b = b.now }) }
+        ensures { IfOk result (λ s. s ≡ record { a = a.now.items; b = b.now.items }) }
     {
         let mut all = Vec::new(alloc);
         add_all_known(&mut all, a)?;

@@ -7,7 +7,7 @@ ghost use Rattle.m2_trail.specs.Trails.{trail_now};
 ghost use Rattle.m2_weave.specs.Strands.{strand_now};
 
 use m2_bytes::NoMemory;
-use m2_journal::Entry;
+use m2_journal::EntryList;
 use m2_trail::Trail;
 use m2_weave::Strand;
 
@@ -22,7 +22,7 @@ pub(crate) fn add_half<'a>(
 {
     strands.push(Strand::Half {
         socket: trail.socket,
-        entries: trail.entries.as_slice(),
+        entries: &trail.entries,
         judged_after,
     })?;
     Ok(())
@@ -41,10 +41,10 @@ fn add_halves<'a>(strands: &mut Vec<Strand<'a>>, trails: &'a [Trail]) -> Result<
 /// Appends the strands of a side.
 pub(crate) fn add_strands<'a>(
     strands: &mut Vec<Strand<'a>>,
-    journal: &'a [Entry],
+    journal: &'a EntryList,
     trails: &'a [Trail],
 ) -> Result<(), NoMemory>
-    ensures { OnOk result (map strand_now strands.new.items ≡ map strand_now strands.old.items ++ strands_of_side journal.now (map trail_now trails.now)) }
+    ensures { OnOk result (map strand_now strands.new.items ≡ map strand_now strands.old.items ++ strands_of_side journal.now.items (map trail_now trails.now)) }
 {
     strands.push(Strand::Journal { entries: journal })?;
     add_halves(strands, trails)

@@ -3,10 +3,11 @@
 
 ghost use Rattle.std.specs.Prelude.{◌≡◌, false, IfOk};
 
+use crate::journals::journal;
 use m2_bytes::{Items, NoMemory};
 use m2_fabric::{End, EndRead, EndWrite, News, SimEnd, SocketId};
 use m2_history::{History, Parts, PartsFault, weave_parts};
-use m2_journal::{Entry, JudgedItem};
+use m2_journal::{Entry, EntryList, JudgedItem};
 use m2_session::{Answer, AskFacts};
 use m2_trail::{Incoming, LooseList, Trail};
 use m2_weave::{Unfit, Why};
@@ -121,7 +122,7 @@ fn taken(alloc: Global, judged_after: &[usize]) -> Result<Trail, NoMemory> {
     Ok(Trail {
         socket: socket(2),
         entity: 4,
-        entries: Items::from_vec(Vec::from_array(alloc, [read(2, 2)])?),
+        entries: journal(alloc, &[read(2, 2)])?,
         judged: Items::from_vec(Vec::from_array(alloc, [accepted()])?),
         judged_after: Items::from_vec(after),
     })
@@ -157,8 +158,8 @@ fn both_sides(
 /// These journals with what both sides lend, woven: the far side first.
 fn weave_lent(
     alloc: Global,
-    near: &[Entry],
-    far: &[Entry],
+    near: &EntryList,
+    far: &EntryList,
     s: &Lent,
 ) -> Result<History, PartsFault> {
     let a = Parts::of(far, s.trails.as_slice(), Some(&s.far_feed), &[]);
@@ -184,12 +185,12 @@ fn woven(
         wrote(2, count),
         read(2, 1),
     ];
-    let far = [judged(2), wrote(2, 1)];
+    let far = journal(alloc, &[judged(2), wrote(2, 1)])?;
     if judged_after.is_empty() {
         let (unanswered, _) = near.split_at(5);
-        return Ok(weave_lent(alloc, unanswered, &far, &s));
+        return Ok(weave_lent(alloc, &journal(alloc, unanswered)?, &far, &s));
     }
-    Ok(weave_lent(alloc, &near, &far, &s))
+    Ok(weave_lent(alloc, &journal(alloc, &near)?, &far, &s))
 }
 
 /// Where in a history this entry of this strand comes; behind all where it doesn't come.

@@ -1,9 +1,10 @@
 //! Generated pairs: the journals of an opener and of an acceptor over one socket, whose bytes fit, and the
 //! same with one byte changed.
 
+use crate::journals::add;
 use m2_bytes::NoMemory;
 use m2_fabric::SocketId;
-use m2_journal::Entry;
+use m2_journal::{Entry, EntryList};
 use m2_weave::{
     EndBytes, SocketBytes, SocketTable, Strand, Unfit, Why, are_named, first_stop, weave,
 };
@@ -34,8 +35,8 @@ fn below_eight(word: u64) -> u32 {
 /// Two journals, and how many bytes each side has written and read.
 #[derive(Drop)]
 struct Pair {
-    opener: Vec<Entry>,
-    acceptor: Vec<Entry>,
+    opener: EntryList,
+    acceptor: EntryList,
     opener_put: u32,
     opener_got: u32,
     acceptor_put: u32,
@@ -44,8 +45,8 @@ struct Pair {
 
 fn nothing_yet(alloc: Global) -> Pair {
     Pair {
-        opener: Vec::new(alloc),
-        acceptor: Vec::new(alloc),
+        opener: EntryList::empty(alloc),
+        acceptor: EntryList::empty(alloc),
         opener_put: 0,
         opener_got: 0,
         acceptor_put: 0,
@@ -54,7 +55,7 @@ fn nothing_yet(alloc: Global) -> Pair {
 }
 
 /// Appends a read or a write of so many bytes, if there are any.
-fn note(entries: &mut Vec<Entry>, reads: bool, count: u32) -> Result<(), NoMemory> {
+fn note(entries: &mut EntryList, reads: bool, count: u32) -> Result<(), NoMemory> {
     if count == 0 {
         return Ok(());
     }
@@ -64,8 +65,7 @@ fn note(entries: &mut Vec<Entry>, reads: bool, count: u32) -> Result<(), NoMemor
     } else {
         Entry::Wrote { socket, count }
     };
-    entries.push(entry)?;
-    Ok(())
+    add(entries, entry)
 }
 
 /// One more thing happens: a side writes, or reads some of what the other has written by then.
@@ -95,7 +95,7 @@ fn go_on(pair: &mut Pair, kind: u32, count: u32) -> Result<(), NoMemory> {
 /// Forty things that happen, by the words that follow this one.
 fn generated(alloc: Global, seed: u64) -> Result<Pair, NoMemory> {
     let mut pair = nothing_yet(alloc);
-    pair.opener.push(Entry::Opened { socket: socket() })?;
+    add(&mut pair.opener, Entry::Opened { socket: socket() })?;
     let mut word = seed;
     for _ in 0..40u32 {
         let kind = below_eight(word);
@@ -118,7 +118,7 @@ fn bytes(alloc: Global, count: u32, changed: u32) -> Result<Vec<u8>, NoMemory> {
 
 /// Whether an order has all entries of both, and each read comes behind the writes of its bytes: replayed
 /// by four counts.
-fn is_fitting(order: &[usize], acceptor: &[Entry], opener: &[Entry]) -> bool {
+fn is_fitting(order: &[usize], acceptor: &EntryList, opener: &EntryList) -> bool {
     let mut places = (0usize, 0usize);
     let mut put = (0u32, 0u32);
     let mut got = (0u32, 0u32);
@@ -129,8 +129,8 @@ fn is_fitting(order: &[usize], acceptor: &[Entry], opener: &[Entry]) -> bool {
             opener.get(places.1)
         };
         let (reads, count) = match entry {
-            Some(Entry::Read { socket: _, count }) => (true, *count),
-            Some(Entry::Wrote { socket: _, count }) => (false, *count),
+            Some(Entry::Read { socket: _, count }) => (true, count),
+            Some(Entry::Wrote { socket: _, count }) => (false, count),
             Some(_) => (false, 0),
             None => return false,
         };
@@ -176,10 +176,10 @@ fn is_found(alloc: Global, pair: &Pair, changed: u32) -> Result<bool, NoMemory> 
     }];
     let table = SocketTable::of(alloc, &sockets)?;
     let acceptor = Strand::Journal {
-        entries: pair.acceptor.as_slice(),
+        entries: &pair.acceptor,
     };
     let opener = Strand::Journal {
-        entries: pair.opener.as_slice(),
+        entries: &pair.opener,
     };
     let strands = Vec::from_array(alloc, [acceptor, opener])?;
     if !are_named(&strands, &table) {
@@ -188,9 +188,7 @@ fn is_found(alloc: Global, pair: &Pair, changed: u32) -> Result<bool, NoMemory> 
     let woven = weave(alloc, &strands, &table)?;
     if changed >= pair.acceptor_got {
         let order = woven.order.as_slice();
-        return Ok(
-            woven.whole && is_fitting(order, pair.acceptor.as_slice(), pair.opener.as_slice()),
-        );
+        return Ok(woven.whole && is_fitting(order, &pair.acceptor, &pair.opener));
     }
     if woven.whole {
         return Ok(false);

@@ -14,6 +14,8 @@ mod driving;
 #[cfg(test)]
 mod generated;
 #[cfg(test)]
+mod journals;
+#[cfg(test)]
 mod pairs;
 #[cfg(test)]
 mod walking;

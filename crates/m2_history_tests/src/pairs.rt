@@ -1,8 +1,9 @@
 //! Two journals with what halves did before: one that fits, and ones that don't.
 
+use crate::journals::journal;
 use m2_bytes::NoMemory;
 use m2_fabric::SocketId;
-use m2_journal::Entry;
+use m2_journal::{Entry, EntryList};
 use m2_session::{Answer, AskFacts};
 use m2_weave::{
     EndBytes, SocketBytes, SocketTable, Strand, Unfit, Why, WovenOrder, are_named, first_stop,
@@ -117,22 +118,22 @@ fn stops(found: &Option<WovenOrder>, at: &[usize]) -> bool {
 }
 
 /// The other side's half reads an ask in two pieces and writes one byte.
-fn half() -> [Entry; 3] {
-    [read(1, 2), read(1, 2), wrote(1, 1)]
+fn half(alloc: Global) -> Result<EntryList, NoMemory> {
+    journal(alloc, &[read(1, 2), read(1, 2), wrote(1, 1)])
 }
 
 /// Its journal judges the ask and writes two more.
-fn far() -> [Entry; 2] {
-    [judged(1), wrote(1, 2)]
+fn far(alloc: Global) -> Result<EntryList, NoMemory> {
+    journal(alloc, &[judged(1), wrote(1, 2)])
 }
 
 /// The strands of the opener's journal, the other journal and the half, which hands on its ask behind so
 /// many entries.
 fn pair<'a>(
     alloc: Global,
-    near: &'a [Entry],
-    far: &'a [Entry],
-    half: &'a [Entry],
+    near: &'a EntryList,
+    far: &'a EntryList,
+    half: &'a EntryList,
     judged_after: &'a [usize],
 ) -> Result<Vec<Strand<'a>>, NoMemory> {
     let near = Strand::Journal { entries: near };
@@ -176,8 +177,8 @@ fn is_at(found: Result<Option<Unfit>, NoMemory>, place: u64, why: Why) -> bool {
 #[test]
 fn a_pair_is_woven_in_the_order_of_its_bytes(rt: HostRuntime) -> Result<(), NoMemory> {
     let alloc = rt.alloc();
-    let near = [opened(1), wrote(1, 4), read(1, 3)];
-    let (far, half) = (far(), half());
+    let near = journal(alloc, &[opened(1), wrote(1, 4), read(1, 3)])?;
+    let (far, half) = (far(alloc)?, half(alloc)?);
     let strands = pair(alloc, &near, &far, &half, &[2])?;
     let sockets = [bytes(1, (&[7, 8, 9], &[1, 2, 3, 4]), (&[1, 2, 3, 4], &[7, 8, 9]))];
     let found = woven(alloc, &strands, &sockets)?;
@@ -189,8 +190,8 @@ fn a_pair_is_woven_in_the_order_of_its_bytes(rt: HostRuntime) -> Result<(), NoMe
 #[test]
 fn a_changed_byte_stops_it_before_its_read(rt: HostRuntime) -> Result<(), NoMemory> {
     let alloc = rt.alloc();
-    let near = [opened(1), wrote(1, 4)];
-    let (far, half) = (far(), half());
+    let near = journal(alloc, &[opened(1), wrote(1, 4)])?;
+    let (far, half) = (far(alloc)?, half(alloc)?);
     let strands = pair(alloc, &near, &far, &half, &[2])?;
     let sockets = [bytes(1, (&[7, 8, 9], &[1, 2, 3, 4]), (&[1, 2, 9, 4], &[7, 8, 9]))];
     let found = woven(alloc, &strands, &sockets)?;
@@ -203,8 +204,8 @@ fn a_changed_byte_stops_it_before_its_read(rt: HostRuntime) -> Result<(), NoMemo
 #[test]
 fn a_byte_that_was_not_written_stops_it_before_its_read(rt: HostRuntime) -> Result<(), NoMemory> {
     let alloc = rt.alloc();
-    let near = [opened(1), wrote(1, 3)];
-    let (far, half) = (far(), half());
+    let near = journal(alloc, &[opened(1), wrote(1, 3)])?;
+    let (far, half) = (far(alloc)?, half(alloc)?);
     let strands = pair(alloc, &near, &far, &half, &[2])?;
     let sockets = [bytes(1, (&[7, 8, 9], &[1, 2, 3]), (&[1, 2, 3, 4], &[7, 8, 9]))];
     let found = woven(alloc, &strands, &sockets)?;
@@ -217,8 +218,8 @@ fn a_byte_that_was_not_written_stops_it_before_its_read(rt: HostRuntime) -> Resu
 #[test]
 fn a_judgement_without_its_ask_stops_it(rt: HostRuntime) -> Result<(), NoMemory> {
     let alloc = rt.alloc();
-    let near = [opened(1), wrote(1, 4), read(1, 3)];
-    let (far, half) = (far(), half());
+    let near = journal(alloc, &[opened(1), wrote(1, 4), read(1, 3)])?;
+    let (far, half) = (far(alloc)?, half(alloc)?);
     let strands = pair(alloc, &near, &far, &half, &[])?;
     let sockets = [bytes(1, (&[7, 8, 9], &[1, 2, 3, 4]), (&[1, 2, 3, 4], &[7, 8, 9]))];
     let found = woven(alloc, &strands, &sockets)?;
@@ -229,17 +230,20 @@ fn a_judgement_without_its_ask_stops_it(rt: HostRuntime) -> Result<(), NoMemory>
 #[test]
 fn a_fault_and_a_reconnect_are_woven(rt: HostRuntime) -> Result<(), NoMemory> {
     let alloc = rt.alloc();
-    let near = [
-        opened(1),
-        wrote(1, 4),
-        closed(1),
-        opened(2),
-        wrote(2, 2),
-        read(2, 1),
-    ];
-    let far = [judged(2), wrote(2, 1)];
-    let first = [read(1, 3), closed(1)];
-    let second = [read(2, 2)];
+    let near = journal(
+        alloc,
+        &[
+            opened(1),
+            wrote(1, 4),
+            closed(1),
+            opened(2),
+            wrote(2, 2),
+            read(2, 1),
+        ],
+    )?;
+    let far = journal(alloc, &[judged(2), wrote(2, 1)])?;
+    let first = journal(alloc, &[read(1, 3), closed(1)])?;
+    let second = journal(alloc, &[read(2, 2)])?;
     let near = Strand::Journal { entries: &near };
     let far = Strand::Journal { entries: &far };
     let first = Strand::Half {
@@ -272,7 +276,7 @@ fn a_fault_and_a_reconnect_are_woven(rt: HostRuntime) -> Result<(), NoMemory> {
 #[test]
 fn a_socket_that_is_not_in_the_table_is_told(rt: HostRuntime) -> Result<(), NoMemory> {
     let alloc = rt.alloc();
-    let near = [wrote(1, 1)];
+    let near = journal(alloc, &[wrote(1, 1)])?;
     let strands = Vec::from_array(alloc, [Strand::Journal { entries: &near }])?;
     assert!(rt; !are_named(&strands, &SocketTable::of(alloc, &[])?));
     Ok(())

@@ -7,7 +7,7 @@ use m2_bytes::NoMemory;
 use m2_dispatch::{Logged, LoggedList};
 use m2_fabric::{End, EndLog, SimEnd, SocketId};
 use m2_history::{HistoryStep, Side};
-use m2_journal::{Entry, PlanStep};
+use m2_journal::{Entries, Entry, EntryList, PlanStep};
 use m2_message::Message;
 use m2_policy::{FastSet, Key, Path};
 use m2_record::Record;
@@ -31,7 +31,7 @@ pub(crate) struct Sides<'a> {
 #[derive(Clone, Copy)]
 struct Strand<'a> {
     of: Which,
-    entries: &'a [Entry],
+    entries: &'a EntryList,
     asks: &'a [usize],
 }
 
@@ -43,10 +43,9 @@ fn strands(record: &Record<SimEnd>) -> usize {
 /// The strand of a side with this number.
 fn strand_of<'a>(record: &'a Record<SimEnd>, of: Which, number: usize) -> Option<Strand<'a>> {
     if number == 0 {
-        let entries = record.journal().as_slice();
         return Some(Strand {
             of,
-            entries,
+            entries: record.journal(),
             asks: &[],
         });
     }
@@ -55,7 +54,7 @@ fn strand_of<'a>(record: &'a Record<SimEnd>, of: Which, number: usize) -> Option
     };
     Some(Strand {
         of,
-        entries: trail.entries.as_slice(),
+        entries: &trail.entries,
         asks: trail.judged_after.as_slice(),
     })
 }
@@ -87,20 +86,20 @@ fn loose_strand<'a>(s: &Sides<'a>, number: usize) -> Option<Strand<'a>> {
         Which::First => s.far.record,
         Which::Second => s.near.record,
     };
-    let judged = judgements(record.journal().as_slice(), &half.id());
+    let judged = judgements(record.journal(), &half.id());
     let asks = half.trail().judged_after.as_slice();
     let (asks, _) = asks.split_at(asks.len().min(judged));
     Some(Strand {
         of: wire.opener.other(),
-        entries: half.trail().entries.as_slice(),
+        entries: &half.trail().entries,
         asks,
     })
 }
 
 /// How many asks on a socket these entries judge.
-fn judgements(entries: &[Entry], on: &SocketId) -> usize {
+fn judgements(entries: &EntryList, on: &SocketId) -> usize {
     let mut count: usize = 0;
-    for e in entries {
+    for e in entries.iter() {
         if let Entry::Judged {
             socket,
             ask: _,
@@ -133,7 +132,7 @@ fn asks_before(strand: &Strand<'_>, place: usize) -> usize {
 }
 
 /// The entry at this place of a strand; none where an ask is handed on there.
-fn entry_at<'a>(strand: &Strand<'a>, place: usize) -> Option<&'a Entry> {
+fn entry_at(strand: &Strand<'_>, place: usize) -> Option<Entry> {
     let asked = asks_before(strand, place);
     if let Some(after) = strand.asks.get(asked) {
         if after.saturating_add(asked) == place {
@@ -200,23 +199,22 @@ fn come(walk: &mut Walk, step: &HistoryStep) -> bool {
     true
 }
 
-/// The entries of a journal that have come, that of the strand with this number.
-fn come_of<'a>(walk: &Walk, s: &Sides<'a>, number: usize) -> &'a [Entry] {
-    match (strand_at(s, number), walk.come.get(number)) {
-        (Some(strand), Some(come)) => {
-            let (come, _) = strand.entries.split_at(strand.entries.len().min(*come));
-            come
-        }
-        _ => &[],
-    }
+/// The first so many entries of a strand.
+fn first<'a>(strand: &Strand<'a>, count: usize) -> Entries<'a> {
+    strand.entries.iter().front(count)
 }
 
-/// Those of the journal of the other side than this.
-fn come_of_other<'a>(walk: &Walk, s: &Sides<'a>, at: Which) -> &'a [Entry] {
-    match at {
-        Which::First => come_of(walk, s, strands(s.near.record)),
-        Which::Second => come_of(walk, s, 0),
-    }
+/// The entries of the journal of the other side than this that have come.
+fn come_of_other<'a>(walk: &Walk, s: &Sides<'a>, at: Which) -> Entries<'a> {
+    let (record, number) = match at {
+        Which::First => (s.far.record, strands(s.near.record)),
+        Which::Second => (s.near.record, 0),
+    };
+    let come = match walk.come.get(number) {
+        Some(come) => *come,
+        None => 0,
+    };
+    record.journal().iter().front(come)
 }
 
 // ---- bytes
@@ -284,11 +282,16 @@ fn posted_by<'a>(plan: &'a [PlanStep], e: &Entry, key: Key, fast: &FastSet) -> O
 }
 
 /// The message of this key that these entries post behind so many others of it.
-fn post<'a>(plan: &'a [PlanStep], posts: &[Entry], key: Key, behind: usize) -> Option<&'a Message> {
+fn post<'a>(
+    plan: &'a [PlanStep],
+    posts: Entries<'_>,
+    key: Key,
+    behind: usize,
+) -> Option<&'a Message> {
     let fast = fast_kinds();
     let mut left = behind;
     for e in posts {
-        if let Some(message) = posted_by(plan, e, key, &fast) {
+        if let Some(message) = posted_by(plan, &e, key, &fast) {
             if left == 0 {
                 return Some(message);
             }
@@ -322,7 +325,7 @@ fn call<'a>(log: &'a LoggedList, key: Key, behind: usize) -> Option<&'a Message>
 }
 
 /// How many messages of this key these entries accept.
-fn acceptances(entries: &[Entry], key: Key) -> usize {
+fn acceptances(entries: Entries<'_>, key: Key) -> usize {
     let mut count: usize = 0;
     for e in entries {
         if let Entry::Accepted {
@@ -330,7 +333,7 @@ fn acceptances(entries: &[Entry], key: Key) -> usize {
             key: its_key,
         } = e
         {
-            if *its_key == key {
+            if its_key == key {
                 count = count.saturating_add(1);
             }
         }
@@ -339,11 +342,11 @@ fn acceptances(entries: &[Entry], key: Key) -> usize {
 }
 
 /// The number of the last message that these entries accept, or 0.
-fn last_accepted(entries: &[Entry]) -> u64 {
+fn last_accepted(entries: Entries<'_>) -> u64 {
     let mut last = 0;
     for e in entries {
         if let Entry::Accepted { number, key: _ } = e {
-            last = *number;
+            last = number;
         }
     }
     last
@@ -362,13 +365,13 @@ fn plan_and_log<'a>(s: &Sides<'a>, at: Which, path: Path) -> (&'a [PlanStep], &'
     (from.record.plan().as_slice(), log)
 }
 
-/// A side behind these entries accepts a message of this key: whether it is the one that the other posted next
-/// of it, and that its dispatcher was called with next.
-fn is_next(walk: &Walk, s: &Sides<'_>, at: Which, before: &[Entry], key: Key) -> bool {
-    let behind = acceptances(before, key);
-    let (plan, log) = plan_and_log(s, at, key.path);
+/// A side behind so many entries of its strand accepts a message of this key: whether it is the one that the other
+/// posted next of it, and that its dispatcher was called with next.
+fn is_next(walk: &Walk, s: &Sides<'_>, strand: &Strand<'_>, place: usize, key: Key) -> bool {
+    let behind = acceptances(first(strand, place), key);
+    let (plan, log) = plan_and_log(s, strand.of, key.path);
     match (
-        post(plan, come_of_other(walk, s, at), key, behind),
+        post(plan, come_of_other(walk, s, strand.of), key, behind),
         call(log, key, behind),
     ) {
         (Some(posted), Some(dispatched)) => is_same(posted, dispatched),
@@ -378,27 +381,28 @@ fn is_next(walk: &Walk, s: &Sides<'_>, at: Which, before: &[Entry], key: Key) ->
 
 // ---- the walk
 
-/// Whether what an entry says is so where it comes, behind these of its strand.
-fn fits(walk: &mut Walk, s: &Sides<'_>, at: Which, before: &[Entry], e: &Entry) -> bool {
+/// Whether what an entry says is so where it comes, behind so many of its strand.
+fn fits(walk: &mut Walk, s: &Sides<'_>, strand: &Strand<'_>, place: usize, e: &Entry) -> bool {
     match e {
         Entry::Read { socket, count } => {
             let more = Moved {
                 read: u64::from(*count),
                 wrote: 0,
             };
-            moves(walk, s, at, socket, more)
+            moves(walk, s, strand.of, socket, more)
         }
         Entry::Wrote { socket, count } => {
             let more = Moved {
                 read: 0,
                 wrote: u64::from(*count),
             };
-            moves(walk, s, at, socket, more)
+            moves(walk, s, strand.of, socket, more)
         }
         Entry::Accepted { number, key } => {
-            *number == last_accepted(before).saturating_add(1) && is_next(walk, s, at, before, *key)
+            let last = last_accepted(first(strand, place));
+            *number == last.saturating_add(1) && is_next(walk, s, strand, place, *key)
         }
-        Entry::Acked { number } => *number <= last_accepted(come_of_other(walk, s, at)),
+        Entry::Acked { number } => *number <= last_accepted(come_of_other(walk, s, strand.of)),
         _ => true,
     }
 }
@@ -414,10 +418,7 @@ fn goes_on(walk: &mut Walk, s: &Sides<'_>, step: &HistoryStep) -> bool {
     let Some(e) = entry_at(&strand, step.place) else {
         return true;
     };
-    let (before, _) = strand
-        .entries
-        .split_at(strand.entries.len().min(step.place));
-    fits(walk, s, strand.of, before, e)
+    fits(walk, s, &strand, step.place, &e)
 }
 
 /// Whether all items have come.

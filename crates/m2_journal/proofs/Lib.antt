@@ -22,3 +22,4 @@ pub use Rattle.m2_handshake.proofs as m2_handshake
 pub use Rattle.m2_bytes.proofs.m2_lemmas as m2_lemmas
 pub use Rattle.m2_queues.proofs as m2_queues
 pub mod SameFeed
+pub mod Short

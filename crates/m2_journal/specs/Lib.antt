@@ -1,3 +1,4 @@
+pub mod EntriesFields
 pub mod Plan
 pub mod SideFacts
 pub mod Items

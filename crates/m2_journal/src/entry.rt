@@ -81,6 +81,3 @@ pub enum Entry {
         planned: bool,
     },
 }
-
-/// A journal.
-pub type EntryList = Items<Entry>;

@@ -1,6 +1,6 @@
 //! What one side of a session did, as a list of entries, and what that list leads to.
 //!
-//! What it is: [`Entry`], one event of a record's journal; [`NodeFacts`] and [`PlanStep`], what a
+//! What it is: [`Entry`], one event of a record's journal; [`EntryList`], a journal; [`NodeFacts`] and [`PlanStep`], what a
 //! record knows and is to do; and definitions that compute, in `specs/`. They say what a journal
 //! speaks of, given the plan and the bytes in the logs of the ends (`Items`); what the bytes on a
 //! feed say (`Said`); the frames that a record writes (`OutFrames`); where a record stands by its
@@ -14,11 +14,13 @@
 //! there.
 #![tactic(auto)]
 
+mod entries;
 mod entry;
 mod facts;
 mod laws;
 
-pub use entry::{Entry, EntryList, JudgedItem, JudgedList};
+pub use entries::{Entries, EntryList};
+pub use entry::{Entry, JudgedItem, JudgedList};
 pub use facts::{NodeFacts, PlanList, PlanStep};
 pub use laws::{
     a_split_is_the_one_reading, a_stream_is_read_in_pieces, acknowledgements_can_be_paid,

@@ -32,6 +32,10 @@ pub neither_of_or : (a b : Bool) → (a || b) ≡ false → (a ≡ false) × (b 
 neither_of_or false b h = (refl, h)
 neither_of_or true b h = absurd (cc)
 
+pub or_assoc : (a b c : Bool) → (a || b) || c ≡ a || (b || c)
+or_assoc true b c = refl
+or_assoc false b c = refl
+
 pub or_true : (b : Bool) → (b || true) ≡ true
 or_true true = refl
 or_true false = refl

@@ -240,7 +240,7 @@ takes_due w old mid new room due =
     beats_chain w.now old mid new (ap (λ r. r.core.facts) room) (room_alone w.now old mid room) (by_due (due_step w.now mid) w mid new (to_be_composed w.now mid) due)
 
 beats : (answer : Stepped) (w : Worked) (old new : RecordNow) → StepsAs answer w old new → Beats w.now old new
-beats stepped.NoMemory w old new n = beats_same w.now old new (ap calm_of n.only) (ap (λ r. r.journal) n.only)
+beats stepped.NoMemory w old new n = beats_same w.now old new (ap calm_of n.nothing.only) (ap (λ r. r.journal) n.nothing.only)
 beats stepped.Moved w old new (mid, room, due) = takes_due w old mid new room due
 beats (stepped.Hand x) w old new (mid, room, due) = takes_due w old mid new room due
 beats stepped.Dry w old new (mid, room, due) = takes_due w old mid new room due

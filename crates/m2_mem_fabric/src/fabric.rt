@@ -24,9 +24,9 @@ use std::sync::{Arc, Mutex, Wait};
 /// nodes, how many faults there were, and whether a node was listened for or split.
 ///
 /// One node at a time listens at an ip and port: another listen there fails, and so does one that is
-/// planned to, or for which there is no memory. Where a node listens anew, what waited at its former
-/// address is dropped, once no port has it. What was gathered is kept until the node is gathered again, and
-/// its ends that weren't closed stay open for the other side.
+/// planned to. One for which there is no memory answers that, and is no fault. Where a node listens anew,
+/// what waited at its former address is dropped, once no port has it. What was gathered is kept until the
+/// node is gathered again, and its ends that weren't closed stay open for the other side.
 #[derive(Drop)]
 pub struct MemFabric<R: Wait + Copy> {
     rt: R,

@@ -148,8 +148,8 @@ impl<R: Wait + Copy> Network<R> {
         }
     }
 
-    /// Listens at an ip and port. The listener's number; none where the call is to fail, where somebody
-    /// listens there, or where there is no memory.
+    /// Listens at an ip and port. The listener's number; Failed where the call is to fail, or where somebody
+    /// listens there.
     pub(crate) fn listen(&mut self, at: &Addr) -> Result<u32, ListenFault> {
         if self.plan.listens.count() || place_at(self.listeners.as_slice(), at).is_some() {
             return Err(ListenFault::Failed);

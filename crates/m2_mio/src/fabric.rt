@@ -22,7 +22,8 @@ use std::sync::Arc;
 /// A fabric over sockets of the system. It opens nothing before the first listen or split.
 ///
 /// A node's listener goes to the first port of its split, and comes back when the node is gathered. What
-/// was gathered is kept until the node is gathered again. A listen for which there is no memory fails.
+/// was gathered is kept until the node is gathered again. A listen for which there is no memory answers
+/// that, and is no fault.
 #[derive(Drop)]
 pub struct MioFabric<R: Net + Copy> {
     rt: R,

@@ -7,7 +7,10 @@ use Rattle.m2_dispatch.specs.Parcel.{heard_for_all}
 use Rattle.m2_dispatch.specs.declared.letter.Letter.{Letter}
 use Rattle.m2_dispatch.specs.declared.logged.Logged.{Logged}
 use Rattle.m2_dispatch.specs.declared.parcel.Parcel.{Parcel}
+use Rattle.m2_dispatch.specs.declared.parcel.Parcel.TheVariants as parcel
+use Rattle.m2_dispatch.specs.m2_shared.Changes.{IsReturn}
 use Rattle.m2_dispatch.specs.m2_shared.Place.{Place}
+use Rattle.m2_dispatch.specs.m2_shared.declared.held.Change.{Change}
 use Rattle.m2_dispatch.specs.m2_shared.declared.ids.Ids.{Ids}
 use Rattle.m2_mailbox.specs.Merge.{IsMerge}
 use Rattle.m2_mailbox.specs.Passes.{IsGetPassOf, IsPutPassOf, capacity_of, looks_of, next_look, owner_of, parts_of, puts_of, taken_of}
@@ -30,6 +33,12 @@ pub record HasDispatched (parcels : List Parcel) (old new : DispatcherNow) : Typ
   pub place : new.place ≡ old.place
   pub lasted : new.lost ≡ false → old.lost ≡ false
   pub heard : new.lost ≡ false → heard_by new.log ≡ heard_by old.log ++ heard_for_all parcels
+
+-- what was granted for a parcel comes back to a word that threads share: for a letter the word falls by its bytes, in one step
+abbrev pub Returns : Parcel → (before after : List Change) → Type 0
+Returns (parcel.Letter l) before after = IsReturn l.grant.n before after
+Returns (parcel.Discard peer) before after = after ≡ before
+Returns (parcel.RemoteReset peer) before after = after ≡ before
 
 -- the first letters that wait were dispatched, in order, and nothing else
 pub record DispatchesFirst (old new : Queued (List Logged)) : Type 0 where
@@ -93,7 +102,7 @@ pub record Looks (any : Bool) (old new : GetPass Parcel Ids) : Type 0 where
 abbrev pub AreRightsAt : (j : ℕ) (old new : ServingNow) (g h : GetPass Parcel Ids) → Type 0
 AreRightsAt j old new g h = (slice_get old.gets j ≡ Some g) × (slice_get new.gets j ≡ Some h)
 
--- one look into this mail of its node, if there is one; there is where a parcel was there; nothing was done with the others
+-- one look into this mail of its node, if there is one, as there is where a parcel came of it; nothing was done with the others
 pub record LooksAt (mails : List Mail) (j : ℕ) (any : Bool) (old new : ServingNow) : Type 0 where
   pub looks : (m : Mail) (g h : GetPass Parcel Ids) → slice_get mails (old.first + j) ≡ Some m → AreRightsAt j old new g h → Looks any g h
   pub some : any ≡ true → (g : GetPass Parcel Ids) × (h : GetPass Parcel Ids) × AreRightsAt j old new g h × Looks true g h

@@ -1,10 +1,12 @@
 //! The dispatcher of a node.
 
-ghost use Rattle.std.specs.Prelude.{◌≡◌, ◌∷◌, [], false};
+ghost use Rattle.std.specs.Prelude.{◌≡◌, ◌-◌, ◌∷◌, [], false};
 ghost use Rattle.std.specs.Bool.{OnTrue};
 ghost use Rattle.m2_dispatch.specs.Letters.{AreOwned};
 ghost use Rattle.m2_dispatch.specs.Parcel.{IsOwned};
-ghost use Rattle.m2_node.specs.Dispatching.{DispatchesFirst, HasDispatched};
+ghost use Rattle.m2_dispatch.specs.m2_shared.Place.{IsAlone, IsShared};
+ghost use Rattle.m2_script.specs.m2_record.Calls.{granted_in};
+ghost use Rattle.m2_node.specs.Dispatching.{DispatchesFirst, HasDispatched, Returns};
 
 use m2_dispatch::{Dispatch, DispatchTurn, Letter, LogDispatcher, Logged, LoggedList, Parcel};
 use m2_shared::{TakePass, Throttle};
@@ -117,7 +119,9 @@ fn turn_all(queue: &mut Dispatch<LogDispatcher>, throttle: &Throttle, pass: &mut
 pub(crate) fn give_back(parcel: Parcel, throttle: &Throttle, pass: &mut TakePass)
     requires pass { pass.old.place ≡ throttle.now.place }
     requires owned { IsOwned throttle.now.place parcel }
-    ensures { pass.new.place ≡ pass.old.place }
+    ensures place { pass.new.place ≡ pass.old.place }
+    ensures word { IsAlone throttle.now.place → pass.new.word ≡ pass.old.word - granted_in parcel }
+    ensures given { IsShared throttle.now.place → Returns parcel pass.old.changes pass.new.changes }
 {
     match parcel {
         Parcel::Letter(letter) => {

@@ -61,7 +61,7 @@ use Rattle.m2_core.specs.Granting.{Throttled}
 use Rattle.m2_record.specs.Framing.{AnswersFront, Frames, Greets}
 use Rattle.m2_record.specs.Reading.{CountsAnswer, EndsRead, Reads, answer_by, answer_read, fault_by, fault_read, faulted_or, held_read, moment_read, read_entries, waits_read}
 use Rattle.m2_record.specs.RecordNow.{RecordNow}
-use Rattle.m2_record.specs.Stepping.{FeedStays, IfMemory, NothingDone, PlansAs, StepsAs, StepsBy, TakesDue, Worked, answer_composed, answer_framed, answer_planned, answer_put}
+use Rattle.m2_record.specs.Stepping.{FeedStays, IfMemory, NothingDone, PlansAs, StepsBy, TakesDue, Worked, answer_composed, answer_framed, answer_planned, answer_put}
 use Rattle.m2_record.proofs.HasGot.{none-closed, none-heard}
 use Rattle.m2_record.proofs.Resumed.{counted-top}
 use Rattle.m2_bytes.proofs.m2_lemmas.Booleans.{both_of_and, false_isnt_true}
@@ -204,7 +204,7 @@ wrote-nothing put.NotYet now old new w a = absurd (false_isnt_true (ap is-memory
 wrote-nothing put.Failed now old new w a = absurd (false_isnt_true (ap is-memory a))
 
 -- a read that found no memory
-memory-read : (answer : EndRead) (o : Option Heard) → faulted_or (fault_by answer o) (answer_by answer o) ≡ stepped.NoMemory → answer ≡ read.NoMemory
+pub memory-read : (answer : EndRead) (o : Option Heard) → faulted_or (fault_by answer o) (answer_by answer o) ≡ stepped.NoMemory → answer ≡ read.NoMemory
 memory-read read.NoMemory o a = refl
 memory-read read.NotYet o a = absurd (false_isnt_true (ap is-memory a))
 memory-read read.Ended o a = absurd (false_isnt_true (ap is-memory a))
@@ -236,11 +236,15 @@ quiet-read x b c w e =
       none-closed x.heard b.live.session x.closed w.feed none w.closes,
     )
 
+-- and heard nothing
+pub unheard : (x : RecordRead) (now : ℕ) (old new : RecordNow) → Reads x now old new → x.answer ≡ read.NoMemory → x.heard ≡ None
+unheard x now old new w e = w.once.core.hears ∙ ap (λ (a : EndRead). heard_after a old.core.facts (live_with w.once.core.feed old.core.live)) e
+
 pub read-nothing : (x : RecordRead) (now : ℕ) (old new : RecordNow) → Reads x now old new → answer_read x ≡ stepped.NoMemory → NothingDone old new
 read-nothing x now old new w a =
     let none : x.answer ≡ read.NoMemory = memory-read x.answer x.heard a in
     let quiet = quiet-read (record { answer = x.answer; heard = x.heard; closed = w.once.closed }) old.core w.mid.core w.once.core none in
-    let silent : x.heard ≡ None = w.once.core.hears ∙ ap (λ (a : EndRead). heard_after a old.core.facts (live_with w.once.core.feed old.core.live)) none in
+    let silent : x.heard ≡ None = unheard x now old new w none in
     let unfaulted : EndsRead None x.heard now w.mid new = subst (λ (f : Option WireFault). EndsRead f x.heard now w.mid new) (ap (λ (z : EndRead). fault_by z x.heard) none) w.ends in
     let ends : new ≡ w.mid = subst (λ (h : Option Heard). EndsRead None h now w.mid new) silent unfaulted in
     subst (NothingDone old) (sym ends)
@@ -261,7 +265,7 @@ read-nothing x now old new w a =
 
 -- ---- a text
 
-memory-composed : (c : Composed) → answer_composed c ≡ stepped.NoMemory → c ≡ composed.NoMemory
+pub memory-composed : (c : Composed) → answer_composed c ≡ stepped.NoMemory → c ≡ composed.NoMemory
 memory-composed composed.NoMemory a = refl
 memory-composed (composed.Asked by_ident number) a = absurd (false_isnt_true (ap is-memory a))
 memory-composed (composed.Numbered number) a = absurd (false_isnt_true (ap is-memory a))
@@ -330,16 +334,6 @@ framed-nothing t (framed.Full held) now old new g a = absurd (false_isnt_true (a
 framed-nothing t (framed.Again seen at) now old new g a = absurd (false_isnt_true (ap is-memory a))
 
 -- ---- the step
-
-pub step-at : (a : Stepped) (w : Worked) (old mid new : RecordNow) → IsSameButRoom old mid → TakesDue w mid new → IfMemory a (NothingDone mid new) → StepsAs a w old new
-step-at stepped.NoMemory w old mid new room due none = nothing-behind old mid new room none
-step-at stepped.Moved w old mid new room due none = (mid, room, due)
-step-at (stepped.Hand x) w old mid new room due none = (mid, room, due)
-step-at stepped.Dry w old mid new room due none = (mid, room, due)
-step-at (stepped.Full held) w old mid new room due none = (mid, room, due)
-step-at (stepped.Again seen now) w old mid new room due none = (mid, room, due)
-step-at stepped.Spent w old mid new room due none = (mid, room, due)
-step-at (stepped.Faulted cause) w old mid new room due none = (mid, room, due)
 
 pub for-memory : (a : Stepped) (P : Type 0) → (a ≡ stepped.NoMemory → P) → IfMemory a P
 for-memory stepped.NoMemory P h = h refl

@@ -33,6 +33,7 @@ pub mod Arriving
 pub mod Handed
 pub mod Remembered
 pub mod Reached
+pub mod Wanting
 pub mod AsksJudged
 pub mod TrailsAt
 pub use Rattle.m2_core.proofs as m2_core

@@ -62,6 +62,10 @@ GivesBack n t = IsAlone t.throttle.place → t.behind.word ≡ t.before.word - n
 abbrev pub TakesNothing : Throttled → Type 0
 TakesNothing t = t.behind ≡ t.before
 
+-- a throttle that is alone has as much out as before
+abbrev pub KeepsWord : Throttled → Type 0
+KeepsWord t = IsAlone t.throttle.place → t.behind.word ≡ t.before.word
+
 abbrev pub DrawsNothing : Counted → Type 0
 DrawsNothing n = n.behind ≡ n.before
 
@@ -192,6 +196,12 @@ pub record NothingDone (old new : RecordNow) : Type 0 where
   pub feed : FeedStays old.core.live.feed new.core.live.feed
   pub only : new ≡ record old { core = record old.core { live = record old.core.live { feed = new.core.live.feed } }; room = new.room }
 
+-- nothing is done to the record, nothing is granted or given back, and no number is drawn
+pub record FindsNoMemory (w : Worked) (old new : RecordNow) : Type 0 where
+  pub nothing : NothingDone old new
+  pub bytes : KeepsWord w.bytes
+  pub numbers : DrawsNothing w.numbers
+
 -- this for want of memory
 abbrev pub IfMemory : Stepped → Type 0 → Type 0
 IfMemory stepped.NoMemory P = P
@@ -201,7 +211,7 @@ IfMemory answer P = Unit {0}
 
 -- The first step that is due is taken, behind room that was made for it; for want of memory nothing is done.
 abbrev pub StepsAs : Stepped → Worked → RecordNow → RecordNow → Type 0
-StepsAs stepped.NoMemory w old new = NothingDone old new
+StepsAs stepped.NoMemory w old new = FindsNoMemory w old new
 StepsAs answer w old new = (mid : RecordNow) × IsSameButRoom old mid × TakesDue w mid new
 
 -- a parcel that a step hands out was granted by the throttle whose word lies there

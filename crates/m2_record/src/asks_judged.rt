@@ -7,21 +7,21 @@ ghost use Rattle.m2_record.specs.AsksJudged.{judged_by};
 ghost use Rattle.m2_record.specs.TakenTrails.{judgements_in};
 
 use m2_fabric::SocketId;
-use m2_journal::{Entry, JudgedItem};
+use m2_journal::{Entry, EntryList, JudgedItem};
 use m2_session::{Answer, AskFacts};
 
 /// What is left of judged asks behind those that a journal has judged on a socket; none where the first ones
 /// aren't these, in this order.
 pub fn behind_judged<'a>(
-    journal: &[Entry],
+    journal: &EntryList,
     socket: &SocketId,
     asks: &'a [JudgedItem],
 ) -> Option<&'a [JudgedItem]>
-    ensures { IfSome result (λ rest. asks.now ≡ judged_on socket.now (judgements_in journal.now) ++ rest.now) }
+    ensures { IfSome result (λ rest. asks.now ≡ judged_on socket.now (judgements_in journal.now.items) ++ rest.now) }
 {
     let mut left = asks;
-    for e in journal {
-        let Some(rest) = behind_one(e, socket, left) else {
+    for e in journal.iter() {
+        let Some(rest) = behind_one(&e, socket, left) else {
             return None;
         };
         left = rest;

@@ -116,7 +116,7 @@ impl<E: End> Record<E> {
             waits: Waits::at_first(&facts),
             plan: Items::empty(alloc),
             steps: 0,
-            journal: Items::empty(alloc),
+            journal: EntryList::empty(alloc),
             trails: Items::empty(alloc),
             core: Core::new(alloc, mine, peer, policy, facts),
             spent: Vec::new(alloc),

@@ -8,7 +8,7 @@ ghost use Rattle.m2_record.specs.m2_core.Waits.{AreWaits};
 use m2_addr::Addr;
 use m2_bytes::{NoMemory, Part};
 use m2_dispatch::Logged;
-use m2_journal::{Entry, NodeFacts, PlanStep};
+use m2_journal::{Entry, EntryList, NodeFacts, PlanStep};
 use m2_message::{Header, Message};
 use m2_policy::{FastSet, lossless_peer, profile};
 use m2_record_trace::{Pair, Side, Which};
@@ -147,7 +147,7 @@ pub(crate) fn outcome_of(p: Pair) -> Outcome {
     );
     let log = p.side(Which::Second).log().as_slice();
     let dispatched = (log.len(), last_number(log));
-    let acked = last_acked(p.side(Which::First).record().journal().as_slice());
+    let acked = last_acked(p.side(Which::First).record().journal());
     let sockets = p.wires().len();
     Outcome {
         phases,
@@ -175,11 +175,11 @@ fn last_number(log: &[Logged]) -> u64 {
 }
 
 /// The number of the last acknowledgement of a journal, or 0.
-fn last_acked(journal: &[Entry]) -> u64 {
+fn last_acked(journal: &EntryList) -> u64 {
     let mut last = 0;
-    for e in journal {
+    for e in journal.iter() {
         if let Entry::Acked { number } = e {
-            last = *number;
+            last = number;
         }
     }
     last

@@ -2,7 +2,7 @@
 
 use crate::driving::{ALL, one_over, outcome_of, post, ready, round, rounds};
 use m2_fabric::{End, SocketId};
-use m2_journal::Entry;
+use m2_journal::{Entry, EntryList};
 use m2_record_trace::{Pair, Which};
 use std::test::Fail;
 
@@ -37,11 +37,11 @@ fn a_message_whose_socket_fails_in_its_midst_is_dispatched_once(rt: HostRuntime)
 }
 
 /// The socket of the last read of a journal, where it has one.
-fn last_read(journal: &[Entry]) -> Option<SocketId> {
+fn last_read(journal: &EntryList) -> Option<SocketId> {
     let mut last = None;
-    for e in journal {
+    for e in journal.iter() {
         if let Entry::Read { socket, count: _ } = e {
-            last = Some(*socket);
+            last = Some(socket);
         }
     }
     last
@@ -54,7 +54,7 @@ fn has_changed_over(p: &Pair) -> (bool, bool) {
     match (record.spent(), p.wires()) {
         ([end], [old, new]) => (
             end.log().closed && end.id() == old.socket,
-            last_read(record.journal().as_slice()) == Some(new.socket),
+            last_read(record.journal()) == Some(new.socket),
         ),
         _ => (false, false),
     }

@@ -9,14 +9,10 @@ use std::alloc::Global;
 
 /// The entry of a journal so far from its end, 1 for the last.
 fn from_end(journal: &EntryList, back: usize) -> Option<Entry> {
-    let entries = journal.as_slice();
-    if back > entries.len() {
+    if back > journal.len() {
         return None;
     }
-    match entries.get(entries.len() - back) {
-        Some(entry) => Some(*entry),
-        None => None,
-    }
+    journal.get(journal.len() - back)
 }
 
 /// Whether the last entry counts an acknowledgement up to this number.
@@ -44,7 +40,7 @@ fn ends_with_resumption(journal: &EntryList, wanted: u64) -> bool {
 
 /// Whether a journal has got two entries, what was read and then the count.
 fn got_read_and_count(journal: &EntryList, before: usize, wanted: u64) -> bool {
-    let len = journal.as_slice().len();
+    let len = journal.len();
     if len < 2 || len - 2 != before {
         return false;
     }
@@ -92,7 +88,7 @@ fn asks(p: &mut Pair) {
 /// Whether one step of a side reads, and counts up to this number.
 fn counts_as_it_reads(p: &mut Pair, at: Which, wanted: u64) -> bool {
     'steps: for _ in 0..20 {
-        let before = p.side(at).record().journal().as_slice().len();
+        let before = p.side(at).record().journal().len();
         let _step = p.step(at, 41);
         if got_read_and_count(p.side(at).record().journal(), before, wanted) {
             return true;

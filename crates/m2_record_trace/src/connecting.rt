@@ -14,7 +14,7 @@ ghost use Rattle.m2_record_trace.specs.Sockets.{is_one};
 use crate::side::Side;
 use m2_bytes::NoMemory;
 use m2_fabric::{End, SimEnd, SocketId};
-use m2_journal::Entry;
+use m2_journal::{Entry, EntryList};
 use m2_record::{Due, Record};
 use m2_trail::Incoming;
 
@@ -109,7 +109,7 @@ fn connect_is_due(kept: &Record<SimEnd>, now: u64) -> bool
 fn is_new_socket(kept: &Record<SimEnd>, socket: &SocketId) -> bool
     ensures { OnTrue result (IsNewSocket kept.now socket.now) }
 {
-    if !socket.goes_to(&kept.session().peer) || is_named(kept.journal().as_slice(), socket) {
+    if !socket.goes_to(&kept.session().peer) || is_named(kept.journal(), socket) {
         return false;
     }
     !has_end(kept, socket)
@@ -117,11 +117,11 @@ fn is_new_socket(kept: &Record<SimEnd>, socket: &SocketId) -> bool
 
 /// Whether an entry of a journal names a socket.
 #[tactic(auto, using(crate::proofs::Sockets::named_more))]
-fn is_named(journal: &[Entry], socket: &SocketId) -> bool
-    ensures { result ≡ is_among socket.now (named_in journal.now) }
+fn is_named(journal: &EntryList, socket: &SocketId) -> bool
+    ensures { result ≡ is_among socket.now (named_in journal.now.items) }
 {
-    for e in journal {
-        if names(e, socket) {
+    for e in journal.iter() {
+        if names(&e, socket) {
             return true;
         }
     }

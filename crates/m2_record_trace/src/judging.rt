@@ -14,7 +14,7 @@ use crate::connecting::has_end;
 use crate::side::Side;
 use m2_fabric::{SimEnd, SocketId};
 use m2_handshake::IdentCheck;
-use m2_journal::{Entry, JudgedItem};
+use m2_journal::{EntryList, JudgedItem};
 use m2_record::{Judged, behind_judged};
 use m2_session::Answer;
 use m2_shared::Draw;
@@ -87,11 +87,7 @@ impl Side {
         if trail.entity != self.record.facts().entity || has_end(&self.record, &socket) {
             return false;
         }
-        has_judged(
-            self.record.journal().as_slice(),
-            &socket,
-            trail.judged.as_slice(),
-        )
+        has_judged(self.record.journal(), &socket, trail.judged.as_slice())
     }
 }
 
@@ -120,8 +116,8 @@ fn refused(arrival: Arrival<SimEnd>, bits: u64) -> HalfLeft
 }
 
 /// Whether a journal has judged just these asks on a socket, in this order. Where it says so, it has.
-fn has_judged(journal: &[Entry], socket: &SocketId, judged: &[JudgedItem]) -> bool
-    ensures { OnTrue result (judged.now ≡ judged_on socket.now (judgements_in journal.now)) }
+fn has_judged(journal: &EntryList, socket: &SocketId, judged: &[JudgedItem]) -> bool
+    ensures { OnTrue result (judged.now ≡ judged_on socket.now (judgements_in journal.now.items)) }
 {
     match behind_judged(journal, socket, judged) {
         Some(rest) => rest.is_empty(),

@@ -36,7 +36,7 @@ fn put_did(out: &mut Blob, side: &[u8], record: &Record<SimEnd>) -> Result<(), N
         side,
         record.session(),
         record.facts(),
-        record.journal().as_slice(),
+        record.journal(),
     )?;
     put_trails(out, side, record.trails().as_slice())
 }

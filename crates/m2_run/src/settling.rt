@@ -15,7 +15,7 @@ use crate::still::are_still;
 use m2_bytes::NoMemory;
 use m2_edge::{Clock, next_moment};
 use m2_fabric::{End, Port};
-use m2_journal::Entry;
+use m2_journal::{Entry, EntryList};
 use m2_node::{Record, RunCenter, RunEnd, RunNode, polls_go_on, turns_go_on, waiting_goes_on};
 use m2_scenario::{Link, Node};
 use std::alloc::Global;
@@ -176,7 +176,7 @@ fn last_at<E: End>(records: &[Record<E>], earlier: u64) -> u64
 fn later_of<E: End>(earlier: u64, side: &Record<E>) -> u64
     ensures { result ≡ later_of earlier side.now }
 {
-    if is_any_productive(side.journal().as_slice()) {
+    if is_any_productive(side.journal()) {
         earlier.max(side.last())
     } else {
         earlier
@@ -184,10 +184,15 @@ fn later_of<E: End>(earlier: u64, side: &Record<E>) -> u64
 }
 
 /// Whether a journal has a productive entry.
-fn is_any_productive(journal: &[Entry]) -> bool
-    ensures { result ≡ list_any is_productive journal.now }
+fn is_any_productive(journal: &EntryList) -> bool
+    ensures { result ≡ list_any is_productive journal.now.items }
 {
-    journal.iter().any(|entry| is_productive(entry))
+    for entry in journal.iter() {
+        if is_productive(&entry) {
+            return true;
+        }
+    }
+    false
 }
 
 /// Whether something was queued, read, written or accepted.

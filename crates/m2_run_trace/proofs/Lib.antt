@@ -1,5 +1,6 @@
 pub mod Acts
 pub mod Deeds
+pub mod Judged
 pub mod LineActs
 pub mod Lines
 pub mod Names

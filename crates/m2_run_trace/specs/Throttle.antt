@@ -1,12 +1,14 @@
 -- What a node's throttle has out, as a line. This project's own.
+use Rattle.std.specs.Option.{unwrap_or}
 use Rattle.std.specs.Prelude.{ℕ, ◌==◌, if◌then◌else◌, [], ◌++◌, codes}
+use Rattle.m2_dispatch.specs.m2_shared.Throttle.{out_alone}
 use Rattle.m2_run_trace.specs.Telling.{Telling, TracedCenter}
 use Rattle.m2_run_trace.specs.Words.{throttle_head}
 use Rattle.m2_trace.specs.Words.{Text, number_word}
 
--- how many bytes are granted and not given back
+-- how many bytes are granted and not given back; of a throttle that threads share nothing is told
 abbrev pub out_of : TracedCenter → ℕ
-out_of c = c.bytes.word
+out_of c = unwrap_or (out_alone c.bytes) 0
 
 -- `NODE throttle OUT`
 unfoldable pub throttle_line : Telling → (out : ℕ) → Text

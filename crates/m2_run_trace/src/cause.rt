@@ -1,7 +1,6 @@
 //! Why an end was closed.
 
 ghost use Rattle.std.specs.Prelude.{◌≡◌};
-ghost use Rattle.std.specs.Option.{option_copied};
 ghost use Rattle.m2_fabric.specs.Log.{log_of};
 ghost use Rattle.m2_run_trace.specs.Cause.{begins_frame, cause_at, cause_by, cause_in_journal, cause_of_answer, cause_of_half, ends_in_frame, gives_up, leaves_own};
 ghost use Rattle.m2_run_trace.specs.Telling.{seen_log};
@@ -24,11 +23,11 @@ const MISSING_LENGTH: usize = 44;
 /// Why the end of a session was closed, as a word behind a space. `before` is the entry in front of that which tells of
 /// it.
 pub(crate) fn cause_in_journal(
-    before: Option<&Entry>,
+    before: Option<Entry>,
     socket: &SocketId,
     log: Option<&EndLog>,
 ) -> &'static [u8]
-    ensures { result.now ≡ cause_in_journal (option_copied before.entry) socket.now (seen_log log.entry) }
+    ensures { result.now ≡ cause_in_journal before socket.now (seen_log log.entry) }
 {
     match before {
         Some(Entry::Down { planned: _ }) => b" down",
@@ -42,7 +41,7 @@ pub(crate) fn cause_in_journal(
             if other.is_same(socket) {
                 cause_at(log)
             } else {
-                cause_of_answer(answer, log)
+                cause_of_answer(&answer, log)
             }
         }
         _ => cause_at(log),

@@ -3,7 +3,7 @@
 ghost use Rattle.std.specs.Prelude.{◌≡◌, slice_get};
 ghost use Rattle.m2_run_trace.specs.Dials.{dial_mark_of, dial_word};
 
-use crate::lists::{at, behind, front};
+use crate::lists::at;
 use crate::telling::TracedRecord;
 use m2_trace::{DialCause, cause_behind, cause_word, dial_cause};
 use std::marker::Model;
@@ -57,6 +57,6 @@ pub(crate) fn dial_word(marked: &Marked<'_>, place: usize) -> &'static [u8]
     let Some(mark) = marked.mark else {
         return b"";
     };
-    let before = front(marked.kept.journal().as_slice(), place);
-    cause_word(cause_behind(mark.cause, behind(before, mark.entries)))
+    let before = marked.kept.journal().iter().front(place);
+    cause_word(cause_behind(mark.cause, before.behind(mark.entries)))
 }

@@ -1,7 +1,6 @@
 //! What a record did, as lines.
 
 ghost use Rattle.std.specs.Prelude.{◌≡◌, ◌∷◌, ◌++◌, ◌-◌, [], if◌then◌else◌, OnOk, drop, length, slice_get};
-ghost use Rattle.std.specs.Option.{option_copied};
 ghost use Rattle.m2_journal.specs.Items.{runs_on};
 ghost use Rattle.m2_run_trace.specs.Entries.{calls_behind, calls_left, entry_before, entry_lines, is_fast, judged_words, lines_of, put_of, row_at, start_on, told_by, told_line};
 ghost use Rattle.m2_run_trace.specs.Ends.{wrote_words};
@@ -13,12 +12,11 @@ use crate::cause::cause_in_journal;
 use crate::dials::{Marked, dial_word};
 use crate::dispatches::put_next;
 use crate::ends::{put_closed, put_opened, put_read, put_wrote};
-use crate::lists::{behind, front};
 use crate::telling::{Calls, Teller, TracedRecord};
 use crate::words::{begin_journal, name_of, put_with_socket};
 use m2_bytes::{Blob, NoMemory};
 use m2_fabric::{EndLog, SocketId};
-use m2_journal::{Entry, EntryList};
+use m2_journal::{Entries, Entry, EntryList};
 use m2_policy::Path;
 use m2_scenario::Node;
 use m2_session::{Answer, AskFacts};
@@ -56,8 +54,8 @@ fn put_entry(
     match marked.kept.journal().get(place) {
         None => Ok(()),
         Some(entry) => {
-            put_line(out, teller, marked, place, entry)?;
-            put_its_dispatch(out, teller, entry, calls)
+            put_line(out, teller, marked, place, &entry)?;
+            put_its_dispatch(out, teller, &entry, calls)
         }
     }
 }
@@ -131,7 +129,7 @@ fn put_told(
                 nodes,
                 socket,
                 *count,
-                behind(journal.as_slice(), place),
+                journal.iter().behind(place),
                 log,
             )
         }
@@ -156,7 +154,7 @@ fn put_told(
 fn row_at(record: &TracedRecord, place: usize, ask: &AskFacts, answer: &Answer) -> &'static [u8]
     ensures { result.now ≡ row_at record.now place ask.now answer.now }
 {
-    let before = front(record.journal().as_slice(), place);
+    let before = record.journal().iter().front(place);
     let held = held_behind(record.session(), record.facts(), before);
     row_word(&held, ask, answer)
 }
@@ -167,10 +165,10 @@ fn put_written(
     nodes: &[Node],
     socket: &SocketId,
     count: u32,
-    entries: &[Entry],
+    entries: Entries<'_>,
     log: Option<&EndLog>,
 ) -> Result<(), NoMemory>
-    ensures { OnOk result (out.new.bytes ≡ out.old.bytes ++ wrote_words nodes.now socket.now count (start_on socket.now entries.now (seen_log log.entry)) (put_of (seen_log log.entry))) }
+    ensures { OnOk result (out.new.bytes ≡ out.old.bytes ++ wrote_words nodes.now socket.now count (start_on socket.now entries.entry (seen_log log.entry)) (put_of (seen_log log.entry))) }
 {
     let put = put_of(log);
     put_wrote(
@@ -194,12 +192,12 @@ fn put_of(log: Option<&EndLog>) -> &[u8]
 }
 
 /// Where what these entries put on a socket begins, if all that its end put ends with it.
-fn start_on(socket: &SocketId, entries: &[Entry], put: usize) -> usize
-    ensures { result ≡ put - written_by (runs_on socket.now entries.now) }
+fn start_on(socket: &SocketId, entries: Entries<'_>, put: usize) -> usize
+    ensures { result ≡ put - written_by (runs_on socket.now entries.entry) }
 {
     let mut start = put;
     for entry in entries {
-        start = start.saturating_sub(written_in(entry, socket));
+        start = start.saturating_sub(written_in(&entry, socket));
     }
     start
 }
@@ -224,8 +222,8 @@ fn written_in(entry: &Entry, socket: &SocketId) -> usize
 }
 
 /// The entry in front of the one at this place.
-pub(crate) fn before(journal: &EntryList, place: usize) -> Option<&Entry>
-    ensures { option_copied result ≡ entry_before journal.now.items place }
+pub(crate) fn before(journal: &EntryList, place: usize) -> Option<Entry>
+    ensures { result ≡ entry_before journal.now.items place }
 {
     if place == 0 {
         None

@@ -97,7 +97,7 @@ fn marks_in(alloc: Global, center: &TracedCenter, sockets: &[SocketId]) -> Resul
         made: center.made().len(),
         standings: standings(alloc, center)?,
         dials: dial_marks(alloc, center)?,
-        out: out_of(center)?,
+        out: out_of(center),
     })
 }
 

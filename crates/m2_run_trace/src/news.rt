@@ -2,7 +2,7 @@
 
 ghost use Rattle.std.specs.Prelude.{◌≡◌, ◌++◌, IfOk, None, OnOk, count_by, drop, length, slice_get};
 ghost use Rattle.std.specs.List.{flat_map};
-ghost use Rattle.std.specs.Option.{option_copied, option_map};
+ghost use Rattle.std.specs.Option.{option_map};
 ghost use Rattle.m2_fabric.specs.Log.{log_of};
 ghost use Rattle.m2_run_trace.specs.Marks.{MarksNow};
 ghost use Rattle.m2_run_trace.specs.News.{accepted_line, asked_behind, behind_closing, behind_counting, behind_judging, closes_another, closing_of, doings, half_in, half_said, halves_said, is_judged_on, is_move, journal_length, journal_up_to, journals_said, judged_by, judgement_at, judgement_from, judgement_said, leaves_own_by, moves_of, moves_said, news, news_of, said_of, told_at, with_calls};
@@ -276,17 +276,17 @@ fn moves_of(trail: Option<&Trail>, log: &EndLog) -> usize
 {
     match trail {
         None => log.runs.len(),
-        Some(trail) => moves_in(trail.entries.as_slice()),
+        Some(trail) => moves_in(&trail.entries),
     }
 }
 
 /// How many of these entries are reads and writes.
-fn moves_in(entries: &[Entry]) -> usize
-    ensures { result ≡ count_by is_move entries.now }
+fn moves_in(entries: &EntryList) -> usize
+    ensures { result ≡ count_by is_move entries.now.items }
 {
     let mut count: usize = 0;
-    for entry in entries {
-        if is_move(entry) {
+    for entry in entries.iter() {
+        if is_move(&entry) {
             count += 1;
         }
     }
@@ -308,7 +308,7 @@ fn asked_behind(trail: Option<&Trail>, log: &EndLog, from: usize) -> usize
 {
     match trail {
         None => behind_last_read(log.runs.as_slice(), from),
-        Some(trail) => moves_in(trail.entries.as_slice()),
+        Some(trail) => moves_in(&trail.entries),
     }
 }
 
@@ -340,7 +340,7 @@ fn judgement_at(
     let Some(record) = at(teller.center.records(), place) else {
         return None;
     };
-    match judged_from(record.journal().as_slice(), *from, socket) {
+    match judged_from(record.journal(), *from, socket) {
         None => None,
         Some(behind) => Some(Judgement {
             record_place: place,
@@ -350,13 +350,15 @@ fn judgement_at(
 }
 
 /// Behind the last entry from a place on by which an ask on the socket was judged.
-fn judged_from(journal: &[Entry], from: usize, socket: &SocketId) -> Option<usize>
-    ensures { result ≡ judged_by socket.now (drop from journal.now) from None }
+fn judged_from(journal: &EntryList, from: usize, socket: &SocketId) -> Option<usize>
+    ensures { result ≡ judged_by socket.now (drop from journal.now.items) from None }
 {
     let mut found = None;
     'entries: for place in from..journal.len() {
-        if is_judged_on(&journal[place], socket) {
-            found = Some(place + 1);
+        if let Some(entry) = journal.get(place) {
+            if is_judged_on(&entry, socket) {
+                found = Some(place + 1);
+            }
         }
     }
     found
@@ -397,37 +399,39 @@ fn behind_judging(journal: &EntryList, place: usize, socket: &SocketId) -> usize
     if !leaves_own_by(before(journal, place)) {
         return place;
     }
-    let entries = journal.as_slice();
-    behind_counting(entries, behind_closing(entries, place, socket))
+    behind_counting(journal, behind_closing(journal, place, socket))
 }
 
 /// Whether by this entry an ask was judged so that the side's own socket is left.
-fn leaves_own_by(entry: Option<&Entry>) -> bool
-    ensures { result ≡ leaves_own_by (option_copied entry.entry) }
+fn leaves_own_by(entry: Option<Entry>) -> bool
+    ensures { result ≡ leaves_own_by entry }
 {
     match entry {
-        Some(Entry::Judged { answer, .. }) => leaves_own(answer),
+        Some(Entry::Judged { answer, .. }) => leaves_own(&answer),
         _ => false,
     }
 }
 
 /// Behind the entry at this place where by it another socket is closed.
-fn behind_closing(journal: &[Entry], place: usize, socket: &SocketId) -> usize
-    ensures { result ≡ behind_closing socket.now place (slice_get journal.now place) }
+fn behind_closing(journal: &EntryList, place: usize, socket: &SocketId) -> usize
+    ensures { result ≡ behind_closing socket.now place (slice_get journal.now.items place) }
 {
-    if place < journal.len() && closes_another(&journal[place], socket) {
-        place + 1
-    } else {
-        place
+    if place < journal.len() {
+        if let Some(entry) = journal.get(place) {
+            if closes_another(&entry, socket) {
+                return place + 1;
+            }
+        }
     }
+    place
 }
 
 /// Behind the entry at this place where by it an acknowledgement is counted.
-fn behind_counting(journal: &[Entry], place: usize) -> usize
-    ensures { result ≡ behind_counting place (slice_get journal.now place) }
+fn behind_counting(journal: &EntryList, place: usize) -> usize
+    ensures { result ≡ behind_counting place (slice_get journal.now.items place) }
 {
     if place < journal.len() {
-        if let Entry::Acked { .. } = &journal[place] {
+        if let Some(Entry::Acked { .. }) = journal.get(place) {
             return place + 1;
         }
     }

@@ -1,6 +1,6 @@
 //! What a node's throttle has out, as a line.
 
-ghost use Rattle.std.specs.Prelude.{◌≡◌, ◌++◌, IfOk, OnOk};
+ghost use Rattle.std.specs.Prelude.{◌≡◌, ◌++◌, OnOk};
 ghost use Rattle.m2_run_trace.specs.Throttle.{changed_throttle, out_of, throttle_line};
 
 use crate::telling::{Teller, TracedCenter};
@@ -8,12 +8,12 @@ use crate::words::begin_throttle;
 use m2_bytes::{Blob, NoMemory};
 use m2_trace::put_number;
 
-/// How many bytes are granted and not given back. Err where threads share the throttle, which no node of a run in memory has
+/// How many bytes are granted and not given back; 0 where threads share the throttle, which no node of a run in memory has
 /// them do (docs/DECISIONS.md).
-pub(crate) fn out_of(center: &TracedCenter) -> Result<u64, NoMemory>
-    ensures { IfOk result (λ n. n ≡ out_of center.now) }
+pub(crate) fn out_of(center: &TracedCenter) -> u64
+    ensures { result ≡ out_of center.now }
 {
-    center.granted().ok_or(NoMemory)
+    center.granted().unwrap_or(0)
 }
 
 /// Appends how many bytes are out.
@@ -34,7 +34,7 @@ pub(crate) fn put_changed_throttle(
 ) -> Result<(), NoMemory>
     ensures { OnOk result (out.new.bytes ≡ out.old.bytes ++ changed_throttle teller.now old) }
 {
-    let bytes = out_of(teller.center)?;
+    let bytes = out_of(teller.center);
     if bytes == old {
         return Ok(());
     }

@@ -9,7 +9,7 @@ ghost use Rattle.m2_script.specs.Ways.{is_down_to, posts_to, way_of, ways_over};
 use m2_bytes::NoMemory;
 use m2_cluster::Cluster;
 use m2_fabric::{End, Port};
-use m2_journal::{Entry, PlanStep};
+use m2_journal::{Entry, EntryList, PlanStep};
 use m2_record::Record;
 use m2_scenario::Link;
 use std::alloc::Global;
@@ -96,14 +96,14 @@ pub fn is_down_towards<E: End>(records: &[Record<E>], to: u32) -> bool
 fn is_down_to<E: End>(side: &Record<E>, to: u32) -> bool
     ensures { result ≡ is_down_to to side.now }
 {
-    side.place() == to && says_down(side.journal().as_slice())
+    side.place() == to && says_down(side.journal())
 }
 
 /// Whether a journal says that its record was marked down.
-fn says_down(journal: &[Entry]) -> bool
-    ensures { result ≡ list_any is_down_entry journal.now }
+fn says_down(journal: &EntryList) -> bool
+    ensures { result ≡ list_any is_down_entry journal.now.items }
 {
-    for entry in journal {
+    for entry in journal.iter() {
         if let Entry::Down { planned: _ } = entry {
             return true;
         }

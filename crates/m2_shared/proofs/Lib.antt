@@ -1,3 +1,4 @@
 pub mod Sums
 pub mod HeldSteps
 pub mod CountedSteps
+pub mod Asking

@@ -8,3 +8,7 @@ pub mod Draw
 pub mod Held
 pub mod Counted
 pub mod Changes
+pub mod Taking
+pub mod Stages
+pub mod More
+pub mod Gates

@@ -1,7 +1,8 @@
 //! The right to take.
 
-ghost use Rattle.std.specs.Prelude.{◌≡◌, ◌≢◌, [], ◌++◌, None, IfSome};
+ghost use Rattle.std.specs.Prelude.{◌≡◌, [], ◌++◌};
 ghost use Rattle.m2_shared.specs.Place.{IsShared};
+ghost use Rattle.m2_shared.specs.Throttle.{out_alone};
 
 use crate::held::{self, HeldSeat};
 use crate::throttle::{Making, Throttle};
@@ -30,10 +31,9 @@ impl Model for TakePass {
 }
 
 impl TakePass {
-    /// How many bytes are out. None where threads share the word.
+    /// How many bytes are out. None exactly where threads share the word.
     pub fn out(&self) -> Option<u64>
-        ensures word { IfSome result (λ n. n ≡ self.now.word) }
-        ensures alone { result ≡ None → self.now.place ≢ None }
+        ensures { result ≡ out_alone self.now }
     {
         match &self.seat {
             None => Some(self.word),

@@ -4,7 +4,7 @@ ghost use Rattle.std.specs.Prelude.{◌≡◌};
 ghost use Rattle.m2_trace.specs.Dials as dials;
 
 use crate::rows::takes;
-use m2_journal::Entry;
+use m2_journal::{Entries, Entry};
 use m2_session::{Phase, Session};
 
 /// What makes a connect of a side due.
@@ -48,12 +48,12 @@ fn cause_at_rest(waits: bool, wanted: bool) -> Option<DialCause>
 
 /// What makes a connect due behind these entries, where this did before them; none where they don't tell it: they have
 /// something else than asks that were judged and not taken.
-pub fn cause_behind(cause: Option<DialCause>, entries: &[Entry]) -> Option<DialCause>
-    ensures { result ≡ dials.cause_behind cause entries.now }
+pub fn cause_behind(cause: Option<DialCause>, entries: Entries<'_>) -> Option<DialCause>
+    ensures { result ≡ dials.cause_behind cause entries.entry }
 {
     let mut behind = cause;
     for entry in entries {
-        behind = cause_after(entry, behind);
+        behind = cause_after(&entry, behind);
     }
     behind
 }

@@ -10,7 +10,7 @@ use crate::rows::{Held, held_after, row_word};
 use crate::words::{put_head, put_key, put_number, put_socket};
 use m2_bytes::{Blob, NoMemory};
 use m2_fabric::SocketId;
-use m2_journal::{Entry, NodeFacts};
+use m2_journal::{Entry, EntryList, NodeFacts};
 use m2_policy::Key;
 use m2_session::{Answer, AskFacts, Session};
 
@@ -235,12 +235,12 @@ pub(crate) fn put_entries(
     out: &mut Blob,
     side: &[u8],
     what: &[u8],
-    entries: &[Entry],
+    entries: &EntryList,
 ) -> Result<(), NoMemory>
-    ensures { OnOk result (out.new.bytes ≡ out.old.bytes ++ flat_map (entry_line side.now what.now) entries.now) }
+    ensures { OnOk result (out.new.bytes ≡ out.old.bytes ++ flat_map (entry_line side.now what.now) entries.now.items) }
 {
-    for e in entries {
-        put_entry(out, side, what, e)?;
+    for e in entries.iter() {
+        put_entry(out, side, what, &e)?;
     }
     Ok(())
 }
@@ -280,17 +280,17 @@ pub fn put_journal(
     side: &[u8],
     session: &Session,
     node: &NodeFacts,
-    journal: &[Entry],
+    journal: &EntryList,
 ) -> Result<(), NoMemory>
-    ensures { OnOk result (out.new.bytes ≡ out.old.bytes ++ journal_lines (side_of session.now node.now) side.now nothing_held journal.now) }
+    ensures { OnOk result (out.new.bytes ≡ out.old.bytes ++ journal_lines (side_of session.now node.now) side.now nothing_held journal.now.items) }
 {
     let mut held = Held {
         absent: true,
         client: 0,
     };
-    for e in journal {
-        put_journal_line(out, side, &held, e)?;
-        held = held_after(session, node, e, held);
+    for e in journal.iter() {
+        put_journal_line(out, side, &held, &e)?;
+        held = held_after(session, node, &e, held);
     }
     Ok(())
 }

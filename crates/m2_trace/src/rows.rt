@@ -6,7 +6,7 @@ ghost use Rattle.m2_session.specs.SessionLaws as session;
 ghost use Rattle.m2_trace.specs.Rows as rows;
 ghost use Rattle.m2_trace.specs.Rows.{side_of};
 
-use m2_journal::{Entry, NodeFacts};
+use m2_journal::{Entries, Entry, NodeFacts};
 use m2_session::{Answer, AskFacts, CookieParts, Session, cookie_of};
 
 /// What tells the rows apart that answer a reconnect by a reset: whether there is no session, and the client cookie that is
@@ -74,15 +74,15 @@ fn row_of_reset(held: &Held, ask: &AskFacts) -> &'static [u8]
 
 /// What is held of a session that isn't lossy, behind these entries of its journal from its beginning on. `session` is the
 /// record's, at any time, and `node` what its node tells it.
-pub fn held_behind(session: &Session, node: &NodeFacts, journal: &[Entry]) -> Held
-    ensures { result ≡ rows.held_behind (side_of session.now node.now) journal.now }
+pub fn held_behind(session: &Session, node: &NodeFacts, journal: Entries<'_>) -> Held
+    ensures { result ≡ rows.held_behind (side_of session.now node.now) journal.entry }
 {
     let mut held = Held {
         absent: true,
         client: 0,
     };
     for entry in journal {
-        held = held_after(session, node, entry, held);
+        held = held_after(session, node, &entry, held);
     }
     held
 }

@@ -104,6 +104,6 @@ pub fn put_trail(out: &mut Blob, side: &[u8], what: &[u8], t: &Trail) -> Result<
     ensures { OnOk result (out.new.bytes ≡ out.old.bytes ++ trail_lines side.now what.now (trail_now t.now)) }
 {
     put_half(out, side, what, t)?;
-    put_entries(out, side, what, t.entries.as_slice())?;
+    put_entries(out, side, what, &t.entries)?;
     put_asks(out, side, what, t)
 }

@@ -98,7 +98,7 @@ impl<E: End> Incoming<E> {
         ensures ok { IfOk result (λ i. i ≡ accepted entity (E.seen end) i.room) }
         ensures err { IfErr result (λ back. E.seen back ≡ E.seen end) }
     {
-        let mut entries = Items::empty(alloc);
+        let mut entries = EntryList::empty(alloc);
         if entries.reserve(1).is_err() {
             return Err(end);
         }

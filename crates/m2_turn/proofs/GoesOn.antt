@@ -280,7 +280,7 @@ takes_due : (w : Worked) (old mid new : RecordNow) → IsSameButRoom old mid →
 takes_due w old mid new room due = chain old mid new (room_alone old mid room) (by_due (due_step w.now mid) w mid new (to_be_composed w.now mid) due)
 
 pub steps : (answer : Stepped) (w : Worked) (old new : RecordNow) → StepsAs answer w old new → GoesOn old new
-steps stepped.NoMemory w old new n = same old new (ap (λ r. r.journal) n.only) (ap (λ r. r.core.facts) n.only)
+steps stepped.NoMemory w old new n = same old new (ap (λ r. r.journal) n.nothing.only) (ap (λ r. r.core.facts) n.nothing.only)
 steps stepped.Moved w old new (mid, room, due) = takes_due w old mid new room due
 steps (stepped.Hand x) w old new (mid, room, due) = takes_due w old mid new room due
 steps stepped.Dry w old new (mid, room, due) = takes_due w old mid new room due

@@ -224,7 +224,7 @@ takes_due : (answer : Stepped) (w : Worked) (old mid new : RecordNow) → w.answ
 takes_due answer w old mid new e room due = subst (λ a. HandsBy a mid new) e (by_due (due_step w.now mid) w mid new (to_be_composed w.now mid) due)
 
 pub steps : (answer : Stepped) (w : Worked) (old new : RecordNow) → w.answer ≡ answer → StepsAs answer w old new → StepHands answer old new
-steps stepped.NoMemory w old new e n = ap (λ r. r.handed) n.only
+steps stepped.NoMemory w old new e n = ap (λ r. r.handed) n.nothing.only
 steps (stepped.Hand x) w old new e (mid, room, due) =
     let h = takes_due (stepped.Hand x) w old mid new e room due in
     record {

@@ -15,8 +15,9 @@ use Rattle.m2_dispatch.specs.Parcel.{AllOwned, IsOwned, heard_at_put, heard_for,
 use Rattle.m2_dispatch.specs.Turn.{IsTurn, dispatched}
 use Rattle.m2_shared.specs.Place.{IsAlone, IsShared, Place}
 use Rattle.m2_shared.specs.Throttle.{SeenTakePass}
-use Rattle.m2_turn.specs.HandingOn.{HandsAllOn, HandsOn, IsNoDiscard, resets_on}
-use Rattle.m2_turn.specs.Mailing.{DispatchesSome, queueing}
+use Rattle.m2_turn.specs.HandingOn.{HandsAllOn, HandsLetters, HandsNoLetter, HandsOn, IsNoDiscard, letters_among, resets_on}
+use Rattle.m2_turn.specs.Mailing.{DispatchesSome, PutsSome, mailing, queueing}
+use Rattle.m2_turn.specs.Outbox.{OutboxNow}
 use Rattle.m2_turn.proofs.Emptied.{split_at_one}
 
 pub heard_for_both : (xs ys : List Parcel) → heard_for_all (xs ++ ys) ≡ heard_for_all xs ++ heard_for_all ys
@@ -64,9 +65,47 @@ one_on heard place x old new into behind told last = record {
   owned = resets_owned place x;
 }
 
+-- ---- the letters among what is handed on
+
+among_both : (xs ys : List Parcel) → letters_among (xs ++ ys) ≡ letters_among xs ++ letters_among ys
+among_both [] ys = refl
+among_both (parcel.Letter l ∷ xs) ys = ap (λ ls. l ∷ ls) (among_both xs ys)
+among_both (parcel.Discard peer ∷ xs) ys = among_both xs ys
+among_both (parcel.RemoteReset peer ∷ xs) ys = among_both xs ys
+
+among_resets : (x : Parcel) → letters_among (resets_on x) ≡ []
+among_resets (parcel.Letter l) = refl
+among_resets (parcel.Discard peer) = refl
+among_resets (parcel.RemoteReset peer) = refl
+
+among_letters : (ls : List Letter) → letters_among (letters_on ls) ≡ ls
+among_letters [] = refl
+among_letters (l ∷ ls) = ap (λ rest. l ∷ rest) (among_letters ls)
+
+pub none_so_far : {D : Type 0} (heard : D → List Heard) (place : Place) (d : D) (into : List Parcel) → HandsNoLetter heard place d d into into
+unfolding nothing_on
+none_so_far heard place d into = record { on = nothing_on heard place d into; none = refl }
+
+pub reset_on : {D : Type 0} (heard : D → List Heard) (place : Place) (x : Parcel) (old new : D) (into behind : List Parcel) → heard new ≡ heard old ++ heard_at_put x →
+    behind ≡ into ++ resets_on x → HandsNoLetter heard place old new into behind
+unfolding one_on
+reset_on heard place x old new into behind told last = record { on = one_on heard place x old new into behind told last; none = among_resets x }
+
+pub no_letters : {D : Type 0} (heard : D → List Heard) (place : Place) (old mid new : D) (into between behind : List Parcel) →
+    HandsNoLetter heard place old mid into between → HandsNoLetter heard place mid new between behind → HandsNoLetter heard place old new into behind
+unfolding on_both
+no_letters heard place old mid new into between behind a b = record {
+  on = on_both heard place old mid new into between behind a.on b.on;
+  none = among_both a.on.more b.on.more ∙ ap (λ ls. ls ++ letters_among b.on.more) a.none ∙ b.none;
+}
+
 -- one couldn't be put
-pub none_on : {D : Type 0} (heard : D → List Heard) (place : Place) (old new : D) (into behind : List Parcel) → heard new ≡ heard old → behind ≡ into → HandsOn heard place old new into behind
-none_on heard place old new into behind told same = record { more = []; last = same ∙ sym (append-nil into); heard_more = told ∙ sym (append-nil (heard old)); no_discard = tt; owned = tt }
+pub no_letter_left : {D : Type 0} (heard : D → List Heard) (place : Place) (old mid new : D) (into between behind : List Parcel) → HandsNoLetter heard place old mid into between →
+    heard new ≡ heard mid → behind ≡ between → HandsNoLetter heard place old new into behind
+no_letter_left heard place old mid new into between behind a told same = record {
+  on = record { more = a.on.more; last = same ∙ a.on.last; heard_more = told ∙ a.on.heard_more; no_discard = a.on.no_discard; owned = a.on.owned };
+  none = a.none;
+}
 
 -- ---- letters that are handed on
 
@@ -113,3 +152,22 @@ letters_are_on heard place old new into behind owned on = record {
   no_discard = letters_are_none on.dispatched;
   owned = (on.owned place owned).1;
 }
+
+-- ---- what waited first
+
+module _ {D : Type 0} (heard : D → List Heard) (place : Place) (out between : OutboxNow D) (old mid : Queued D) (pass amid : SeenTakePass) (into put : List Parcel)
+    (puts : PutsSome heard place (mailing out old pass) (mailing between mid amid)) (on : HandsNoLetter heard place old.inner mid.inner into put) where
+  -- memory ran out for a parcel
+  pub first_of_none : HandsLetters (mailing out old pass) (mailing between mid amid) into put
+  first_of_none = record { put = puts.put; mail = puts.mail; more = on.on.more; last = on.on.last; waiting = sym puts.waiting ∙ ap (λ ls. ls ++ mid.waiting) (sym on.none) }
+
+  -- letters are handed on behind what is put
+  pub first_of_all : (new : Queued D) (last : SeenTakePass) (behind : List Parcel) → HandsAllOn heard mid new put behind → HandsLetters (mailing out old pass) (mailing between new last) into behind
+  first_of_all new last behind all = record {
+    put = puts.put;
+    mail = puts.mail;
+    more = on.on.more ++ letters_on all.dispatched;
+    last = all.last ∙ ap (λ l. l ++ letters_on all.dispatched) on.on.last ∙ append_assoc into on.on.more (letters_on all.dispatched);
+    waiting = sym puts.waiting ∙ all.waiting ∙ ap (λ ls. ls ++ new.waiting)
+        (sym (among_both on.on.more (letters_on all.dispatched) ∙ ap (λ ls. ls ++ letters_among (letters_on all.dispatched)) on.none ∙ among_letters all.dispatched));
+  }

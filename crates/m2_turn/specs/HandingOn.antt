@@ -10,6 +10,7 @@ use Rattle.m2_dispatch.specs.Dispatch.{Queued}
 use Rattle.m2_dispatch.specs.Letters.{AreOwned, heard_in}
 use Rattle.m2_dispatch.specs.Parcel.{AllOwned, heard_for_all, letters_on}
 use Rattle.m2_shared.specs.Place.{Place}
+use Rattle.m2_turn.specs.Mailing.{Mailing, after_puts}
 
 -- a letter or a reset: a discard would throw letters away that count as heard
 abbrev pub IsNoDiscard : Parcel → Type 0
@@ -25,6 +26,27 @@ pub record HandsOn {D : Type 0} (heard : D → List Heard) (place : Place) (old 
   pub heard_more : heard new ≡ heard old ++ heard_for_all more
   pub no_discard : AllByRecursion IsNoDiscard more
   pub owned : AllOwned place more
+
+-- the letters among parcels, in order
+abbrev pub letters_among : List Parcel → List Letter
+letters_among [] = []
+letters_among (parcel.Letter l ∷ xs) = l ∷ letters_among xs
+letters_among (parcel.Discard peer ∷ xs) = letters_among xs
+letters_among (parcel.RemoteReset peer ∷ xs) = letters_among xs
+
+-- The letters among the parcels that are last now are those that were dispatched, with their grants: the first that waited behind
+-- what was put of the mail, and no other.
+pub record HandsLetters {D : Type 0} (old new : Mailing D) (into behind : List Parcel) : Type 0 where
+  pub put : List Parcel
+  pub mail : old.out.mail ≡ put ++ new.out.mail
+  pub more : List Parcel
+  pub last : behind ≡ into ++ more
+  pub waiting : after_puts put old.queue.queued.waiting ≡ letters_among more ++ new.queue.queued.waiting
+
+-- no letter is handed on
+pub record HandsNoLetter {D : Type 0} (heard : D → List Heard) (place : Place) (old new : D) (into behind : List Parcel) : Type 0 where
+  pub on : HandsOn heard place old new into behind
+  pub none : letters_among on.more ≡ []
 
 -- a parcel that is handed on where it is put
 abbrev pub resets_on : Parcel → List Parcel

@@ -9,8 +9,8 @@ ghost use Rattle.m2_turn.specs.Halves.{halves_of};
 ghost use Rattle.m2_turn.specs.Sessions.{AreConsistent, Supply};
 
 use crate::pending::{MOST_HALVES, Pending, Pendings};
-use m2_bytes::Items;
 use m2_fabric::{End, Port, Taken};
+use m2_journal::EntryList;
 use m2_trail::{Incoming, Loose};
 use std::alloc::Global;
 
@@ -65,7 +65,7 @@ fn accept_once<P: Port>(
     ensures accepts { AcceptsOnce entity result (accepting (P.seen port.old) halves.old loose.old.items) (accepting (P.seen port.new) halves.new loose.new.items) }
     ensures room { length halves.new ≤ vec_capacity loose.new - vec_len loose.new }
 {
-    let mut entries = Items::empty(alloc);
+    let mut entries = EntryList::empty(alloc);
     if loose.reserve(halves.len() + 1).is_err() || entries.reserve(1).is_err() {
         return Some(Accepted::NoMemory);
     }

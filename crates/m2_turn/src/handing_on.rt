@@ -4,7 +4,7 @@ ghost use Rattle.std.specs.Prelude.{◌≡◌, ◌-◌, ◌++◌, not, true, fal
 ghost use Rattle.m2_dispatch.specs.Letters.{AreOwned, granted};
 ghost use Rattle.m2_dispatch.specs.Parcel.{IsOwned, after_put, heard_at_put, thrown_away};
 ghost use Rattle.m2_shared.specs.Place.{IsAlone, IsShared, Place};
-ghost use Rattle.m2_turn.specs.HandingOn.{HandsAllOn, HandsOn, resets_on};
+ghost use Rattle.m2_turn.specs.HandingOn.{HandsAllOn, HandsLetters, HandsNoLetter, HandsOn, resets_on};
 ghost use Rattle.m2_turn.specs.Mailing.{Mails, PutsSome, is_none, mailing};
 ghost use Rattle.m2_turn.specs.Outbox.{OwnsAll};
 
@@ -31,6 +31,7 @@ pub fn hand_mail_on<D: Dispatcher>(
     requires letters { AreOwned throttle.now.place queued.old.waiting }
     ensures mails { Mails D.heard throttle.now.place result (mailing out.old queued.old pass.old) (mailing out.new queued.new pass.new) }
     ensures on { HandsOn D.heard throttle.now.place queued.old.inner queued.new.inner into.old.items into.new.items }
+    ensures dispatched { HandsLetters (mailing out.old queued.old pass.old) (mailing out.new queued.new pass.new) into.old.items into.new.items }
     ensures out { OwnsAll throttle.now.place out.new }
     ensures letters { AreOwned throttle.now.place queued.new.waiting }
     ensures place { pass.new.place ≡ pass.old.place }
@@ -58,7 +59,7 @@ fn put_all_on<D: Dispatcher>(
     requires out { OwnsAll throttle.now.place out.old }
     requires letters { AreOwned throttle.now.place queued.old.waiting }
     ensures puts { PutsSome D.heard throttle.now.place (mailing out.old queued.old pass.old) (mailing out.new queued.new pass.new) }
-    ensures on { HandsOn D.heard throttle.now.place queued.old.inner queued.new.inner into.old.items into.new.items }
+    ensures on { HandsNoLetter D.heard throttle.now.place queued.old.inner queued.new.inner into.old.items into.new.items }
     ensures ok { OnOk result (is_none out.new.mail ≡ true) }
     ensures err { OnErr result (is_none out.new.mail ≡ false) }
     ensures out { OwnsAll throttle.now.place out.new }

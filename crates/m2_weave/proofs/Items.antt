@@ -1,13 +1,11 @@
 -- The items of a strand, one after the other.
-use Rattle.std.proofs.Common.{◌≡◌, ℕ, zero, suc, ◌+◌, ◌-◌, ◌<◌, ◌≤◌, max, ◌⊎◌, inl, inr, Bool, true, false, Some, List, [], ◌∷◌, ◌++◌, length, take, drop, map, refl, sym, ap, ◌∙◌, subst, arith, add-one}
+use Rattle.std.proofs.Common.{◌≡◌, ℕ, zero, suc, ◌+◌, ◌-◌, ◌<◌, ◌≤◌, max, ◌⊎◌, inl, inr, Bool, true, false, Some, None, List, [], ◌∷◌, ◌++◌, length, take, drop, map, refl, sym, ap, ◌∙◌, subst, arith, add-one}
 use Rattle.std.specs.Prelude.{slice_get, slice_index_or, ◌||◌}
 use Rattle.std.specs.List.{AllByRecursion, list_any}
 use Rattle.std.proofs.lemmas.List.Folds.{list_any_more}
 use Rattle.std.proofs.lemmas.List.{length-map, length-append, drop_more, drop_all, take_all}
 use Rattle.m2_fabric.specs.declared.socket.SocketId.{SocketId}
 use Rattle.m2_journal.specs.declared.entry.Entry.{Entry}
-use Rattle.m2_weave.specs.declared.strand.Strand.{Strand}
-use Rattle.m2_weave.specs.declared.strand.Strand.TheVariants.{Journal}
 use Rattle.m2_weave.specs.declared.strand.StrandItem.{StrandItem}
 use Rattle.m2_weave.specs.declared.strand.StrandItem.TheVariants.{Noted, Handed}
 use Rattle.m2_weave.specs.Strands.{half_items, opens}
@@ -72,16 +70,29 @@ notes k es rest e asks ns n place first split h =
     ap (λ xs. half_items k place xs asks) first ∙ ap (half_items k place (e ∷ rest)) split ∙ noted_before k e rest n ns place h
     ∙ ap (λ p. Noted e ∷ half_items k p rest (n ∷ ns)) (sym (add-one place)) ∙ ap (λ ms. Noted e ∷ half_items k (place + 1) rest ms) (sym split)
 
-pub notes_last : (k : SocketId) (es rest : List Entry) (e : Entry) (asks : List ℕ) (place : ℕ) → es ≡ e ∷ rest → length asks ≡ 0 →
-    half_items k place es asks ≡ Noted e ∷ half_items k place rest asks
-notes_last k es rest e [] place first none = ap (λ xs. half_items k place xs []) first
-notes_last k es rest e (n ∷ ns) place first none = absurd (omega (arith, none))
+pub notes_last : (k : SocketId) (es rest : List Entry) (e : Entry) (asks : List ℕ) (place next : ℕ) → es ≡ e ∷ rest → length asks ≡ 0 →
+    half_items k place es asks ≡ Noted e ∷ half_items k next rest asks
+notes_last k es rest e [] place next first none = ap (λ xs. half_items k place xs []) first
+notes_last k es rest e (n ∷ ns) place next first none = absurd (omega (arith, none))
 
--- one entry split off
-pub one_off : (es front back : List Entry) (d : Entry) → es ≡ front ++ back → length front ≡ 1 → es ≡ slice_index_or front 0 d ∷ back
-one_off es [] back d e n = absurd (omega (arith, n))
-one_off es (x ∷ []) back d e n = e
-one_off es (x ∷ y ∷ zs) back d e n = absurd (omega (arith, n))
+-- those from a place on, of which the first stands there
+pub left_at : (es : List Entry) (place : ℕ) (e : Entry) → slice_get es place ≡ Some e → drop place es ≡ e ∷ drop (place + 1) es
+left_at es place e is = go es place is ∙ ap (λ n. e ∷ drop n es) (sym (add-one place))
+  where
+    go : (xs : List Entry) (n : ℕ) → slice_get xs n ≡ Some e → drop n xs ≡ e ∷ drop (suc n) xs
+    go [] n is = absurd (cc is)
+    go (x ∷ xs) zero is = let same : x ≡ e = cc is in ap (λ y. y ∷ xs) same
+    go (x ∷ xs) (suc n) is = go xs n is
+
+-- where none stands at a place there are no more
+pub none_there : (es : List Entry) (place : ℕ) → slice_get es place ≡ None → length es ≤ place
+none_there [] place is = omega arith
+none_there (e ∷ es) zero is = absurd (cc is)
+none_there (e ∷ es) (suc n) is = omega (arith, none_there es n is)
+
+-- there are none behind the last
+pub none_left : (es : List Entry) (place : ℕ) → length es ≤ place → length (drop place es) ≡ 0
+none_left es place h = ap length (drop_all place es h)
 
 -- ---- items that are still to come
 
@@ -123,14 +134,3 @@ all_more P is n d h all this = subst (λ m. AllByRecursion P (take m is)) (sym (
     go n [] h all this = absurd (omega (arith, h))
     go zero (i ∷ is) h all this = (this, tt)
     go (suc n) (i ∷ is) h all this = (all.0, go n is (omega (arith, h)) all.1 this)
-
--- ---- a strand among others
-
--- what stands in place of a strand that isn't there
-abbrev pub nothing_lent : Strand
-nothing_lent = Journal (record { ref_ptr = (0, 0); now = [] })
-
-pub own_default : (strands : List Strand) (k : ℕ) (d : Strand) → k < length strands → slice_index_or strands k d ≡ slice_index_or strands k (slice_index_or strands k d)
-own_default [] k d h = absurd (omega (arith, h))
-own_default (s ∷ strands) zero d h = refl
-own_default (s ∷ strands) (suc k) d h = own_default strands k d (omega (arith, h))

@@ -47,8 +47,8 @@ abbrev pub half_of : SocketId → List Entry → (judged_after : List ℕ) → S
 half_of k entries judged_after = record { of_half = true; items = half_items k 0 entries judged_after }
 
 abbrev pub strand_now : Strand → StrandNow
-strand_now (Journal entries) = journal_of entries.now
-strand_now (Half socket entries judged_after) = half_of socket entries.now judged_after.now
+strand_now (Journal entries) = journal_of entries.now.items
+strand_now (Half socket entries judged_after) = half_of socket entries.now.items judged_after.now
 
 -- ---- what items are on a socket
 

@@ -4,7 +4,7 @@ ghost use Rattle.std.specs.Prelude.{◌≡◌, ◌<◌, ◌∷◌, length};
 ghost use Rattle.m2_weave.specs.Strands.{strand_now};
 
 use m2_fabric::SocketId;
-use m2_journal::Entry;
+use m2_journal::{Entry, EntryList};
 use std::marker::Model;
 
 /// An item of a strand.
@@ -22,13 +22,13 @@ pub enum StrandItem {
 pub enum Strand<'a> {
     /// A journal.
     Journal {
-        entries: &'a [Entry],
+        entries: &'a EntryList,
     },
     /// What a half did on this socket: its entries, and after how many of them each of its asks was handed
     /// on to be judged.
     Half {
         socket: SocketId,
-        entries: &'a [Entry],
+        entries: &'a EntryList,
         judged_after: &'a [usize],
     },
 }
@@ -102,22 +102,22 @@ const NO_SOCKET: SocketId = SocketId {
 pub(crate) struct ItemsLeft<'a> {
     /// Where the asks are handed on.
     socket: SocketId,
-    /// How many entries have come, as long as an ask is still to be handed on.
+    /// How many entries have come.
     place: usize,
-    /// The entries that are still to come.
-    entries: &'a [Entry],
+    /// All entries.
+    entries: &'a EntryList,
     /// After how many entries each ask is handed on that is still to be.
     judged_after: &'a [usize],
 }
 
 impl<'a> Model for ItemsLeft<'a> {
-    ghost use Rattle.std.specs.Prelude.{List};
+    ghost use Rattle.std.specs.Prelude.{List, drop};
     ghost use Rattle.m2_weave.specs.declared.strand.StrandItem.{StrandItem};
     ghost use Rattle.m2_weave.specs.Strands.{half_items};
 
     ghost Value = { List StrandItem };
 
-    ghost view = { λ l. half_items l.socket l.place l.entries.now l.judged_after.now };
+    ghost view = { λ l. half_items l.socket l.place (drop l.place l.entries.now.items) l.judged_after.now };
 }
 
 impl<'a> ItemsLeft<'a> {
@@ -126,15 +126,19 @@ impl<'a> ItemsLeft<'a> {
         requires some { 0 < length self.old }
         ensures { self.old ≡ result ∷ self.new }
     {
+        let count = self.entries.len();
         if let Some((n, asks)) = self.judged_after.split_first() {
-            if *n <= self.place || self.entries.is_empty() {
+            if *n <= self.place || self.place >= count {
                 self.judged_after = asks;
                 return StrandItem::Handed(self.socket);
             }
-            self.place += 1;
         }
-        let (first, rest) = self.entries.split_at(1);
-        self.entries = rest;
-        StrandItem::Noted(first[0])
+        match self.entries.get(self.place) {
+            Some(entry) => {
+                self.place += 1;
+                StrandItem::Noted(entry)
+            }
+            None => unreachable!(),
+        }
     }
 }

@@ -12,7 +12,7 @@ returns-in-None-clause-counts g t c = sym (none_more c.args.records.now c.in-Non
 
 pub returns-in-Some-clause-counts : goal.returns-in-Some-clause-counts
 returns-in-Some-clause-counts g t c =
-    one_more c.args.records.now c.in-Some.rest.now c.in-Some.first.now c.len.result c.entries_in.result c.in-Some.ensures.cases.0 (c.len.ensures ∙ ap length c.journal.ensures)
+    one_more c.args.records.now c.in-Some.rest.now c.in-Some.first.now c.len.result c.entries_in.result c.in-Some.ensures.cases.0 (c.len.ensures.count ∙ ap length c.journal.ensures)
     c.entries_in.ensures.counts
 
 pub returns-in-Some-clause-within : goal.returns-in-Some-clause-within

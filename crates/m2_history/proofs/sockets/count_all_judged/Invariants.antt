@@ -1,4 +1,4 @@
-use Rattle.std.proofs.Common.{◌≡◌, ◌+◌, true, drop, length, map}
+use Rattle.std.proofs.Common.{◌≡◌, ◌+◌, true, length, map}
 use Rattle.std.specs.Prelude.{slice_index}
 use Rattle.m2_fabric.specs.declared.socket.SocketId.{SocketId}
 use Rattle.m2_fabric.specs.Sockets.{is_among}
@@ -12,6 +12,6 @@ abbrev pub invariant-loop-e : goal.invariant-loop-e
 invariant-loop-e l = record {
   count : length l.judged.items ≡ length l.names;
   counted : (k : SocketId) → is_among k l.names ≡ true →
-      slice_index l.judged.items (place_in l.names k) + total (judged_by k) (map Noted (drop l.e-index l.journal))
-      ≡ slice_index l.initial.judged.items (place_in l.names k) + total (judged_by k) (map Noted l.journal);
+      slice_index l.judged.items (place_in l.names k) + total (judged_by k) (map Noted l.e-iterator)
+      ≡ slice_index l.initial.judged.items (place_in l.names k) + total (judged_by k) (map Noted l.journal.items);
 }

@@ -21,6 +21,6 @@ give_back-requires-clause-owned g c = (subst (λ (ps : List Parcel). AllOwned c.
 
 pub parcels-preserved : goal.parcels-preserved
 parcels-preserved g c = record {
-  pass = c.give_back.ensures ∙ c.parcels.invariant.pass;
+  pass = c.give_back.ensures.place ∙ c.parcels.invariant.pass;
   owned = (subst (λ (ps : List Parcel). AllOwned c.shares.inside.shared.throttle.place ps) c.in-Some.ensures.items c.parcels.invariant.owned).1;
 }

@@ -1,7 +1,7 @@
 use Rattle.std.proofs.Common.{inr, subst, sym}
 use Rattle.m2_turn.specs.Mailing.{Mails, mailing, queueing}
 use Rattle.m2_turn.proofs.Emptied.{all_mailed}
-use Rattle.m2_turn.proofs.HandingOn.{are_dispatched, letters_are_on, on_both}
+use Rattle.m2_turn.proofs.HandingOn.{are_dispatched, first_of_all, first_of_none, letters_are_on, on_both}
 use Rattle.m2_turn.proofs.handing_on.hand_mail_on.Goals as goal
 
 pub returns-in-Ok-hand_all_on-clause-mails : goal.returns-in-Ok-hand_all_on-clause-mails
@@ -35,13 +35,31 @@ returns-in-Err-hand_all_on-clause-mails g c =
 pub returns-in-Ok-hand_all_on-clause-on : goal.returns-in-Ok-hand_all_on-clause-on
 returns-in-Ok-hand_all_on-clause-on g c =
     on_both g.D.Dispatcher.heard c.args.throttle.now.place c.args.queued.now.inner c.put_all_on.new.queued.inner c.hand_all_on.new.queued.inner c.args.into.now.items c.put_all_on.new.into.items
-    c.hand_all_on.new.into.items c.put_all_on.ensures.on
+    c.hand_all_on.new.into.items c.put_all_on.ensures.on.on
     (letters_are_on g.D.Dispatcher.heard c.args.throttle.now.place c.put_all_on.new.queued c.hand_all_on.new.queued c.put_all_on.new.into.items c.hand_all_on.new.into.items c.put_all_on.ensures.letters
     c.hand_all_on.ensures.on)
 
 pub returns-in-Err-hand_all_on-clause-on : goal.returns-in-Err-hand_all_on-clause-on
 returns-in-Err-hand_all_on-clause-on g c =
     on_both g.D.Dispatcher.heard c.args.throttle.now.place c.args.queued.now.inner c.put_all_on.new.queued.inner c.hand_all_on.new.queued.inner c.args.into.now.items c.put_all_on.new.into.items
-    c.hand_all_on.new.into.items c.put_all_on.ensures.on
+    c.hand_all_on.new.into.items c.put_all_on.ensures.on.on
     (letters_are_on g.D.Dispatcher.heard c.args.throttle.now.place c.put_all_on.new.queued c.hand_all_on.new.queued c.put_all_on.new.into.items c.hand_all_on.new.into.items c.put_all_on.ensures.letters
     c.hand_all_on.ensures.on)
+
+pub returns-in-Err-clause-on : goal.returns-in-Err-clause-on
+returns-in-Err-clause-on g c = c.put_all_on.ensures.on.on
+
+pub returns-in-Err-clause-dispatched : goal.returns-in-Err-clause-dispatched
+returns-in-Err-clause-dispatched g c =
+    first_of_none g.D.Dispatcher.heard c.args.throttle.now.place c.args.out.now c.put_all_on.new.out c.args.queued.now c.put_all_on.new.queued c.args.pass.now c.put_all_on.new.pass c.args.into.now.items
+    c.put_all_on.new.into.items c.put_all_on.ensures.puts c.put_all_on.ensures.on
+
+pub returns-in-Ok-hand_all_on-clause-dispatched : goal.returns-in-Ok-hand_all_on-clause-dispatched
+returns-in-Ok-hand_all_on-clause-dispatched g c =
+    first_of_all g.D.Dispatcher.heard c.args.throttle.now.place c.args.out.now c.put_all_on.new.out c.args.queued.now c.put_all_on.new.queued c.args.pass.now c.put_all_on.new.pass c.args.into.now.items
+    c.put_all_on.new.into.items c.put_all_on.ensures.puts c.put_all_on.ensures.on c.hand_all_on.new.queued c.put_all_on.new.pass c.hand_all_on.new.into.items c.hand_all_on.ensures.on
+
+pub returns-in-Err-hand_all_on-clause-dispatched : goal.returns-in-Err-hand_all_on-clause-dispatched
+returns-in-Err-hand_all_on-clause-dispatched g c =
+    first_of_all g.D.Dispatcher.heard c.args.throttle.now.place c.args.out.now c.put_all_on.new.out c.args.queued.now c.put_all_on.new.queued c.args.pass.now c.put_all_on.new.pass c.args.into.now.items
+    c.put_all_on.new.into.items c.put_all_on.ensures.puts c.put_all_on.ensures.on c.hand_all_on.new.queued c.put_all_on.new.pass c.hand_all_on.new.into.items c.hand_all_on.ensures.on

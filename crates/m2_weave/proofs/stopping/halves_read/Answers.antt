@@ -1,7 +1,5 @@
 -- One strand more.
 use Rattle.std.proofs.Common.{◌<◌, length, arith}
-use Rattle.std.specs.Prelude.{slice_index_or}
-use Rattle.m2_weave.proofs.Items.{nothing_lent, own_default}
 use Rattle.m2_weave.proofs.Tallies.{halves_more}
 use Rattle.m2_weave.proofs.stopping.halves_read.Goals as goal
 
@@ -15,5 +13,5 @@ loop-s-preserved c =
       c.in_ok-sum.ensures,
       c.in_ok-half_read.ensures,
       c.loop-s.invariant,
-      halves_more n strands (slice_index_or strands n nothing_lent) c.args.k.now h (own_default strands n nothing_lent h),
+      halves_more n strands c.s-item.result c.args.k.now h c.s-item.is,
     )

@@ -1,7 +1,5 @@
 -- One strand more.
 use Rattle.std.proofs.Common.{◌<◌, length, arith}
-use Rattle.std.specs.Prelude.{slice_index_or}
-use Rattle.m2_weave.proofs.Items.{nothing_lent, own_default}
 use Rattle.m2_weave.proofs.Tallies.{halves_more}
 use Rattle.m2_weave.proofs.tally.read_by_halves.Goals as goal
 
@@ -17,6 +15,6 @@ loop-s-preserved c =
             arith,
             c.in_ok-add_half.ensures.added k among,
             c.loop-s.invariant.numbers k among,
-            halves_more n strands (slice_index_or strands n nothing_lent) k h (own_default strands n nothing_lent h),
+            halves_more n strands c.s-item.result k h c.s-item.is,
           );
     }

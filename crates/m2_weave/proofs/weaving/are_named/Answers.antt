@@ -6,7 +6,6 @@ use Rattle.m2_weave.specs.declared.strand.Strand.{Strand}
 use Rattle.m2_weave.specs.Strands.{StrandNow, strand_now}
 use Rattle.m2_weave.specs.Counting.{IsNamed}
 use Rattle.m2_weave.specs.Table.{names_of}
-use Rattle.m2_weave.proofs.Items.{nothing_lent}
 use Rattle.m2_weave.proofs.Whole.{all_get}
 use Rattle.m2_weave.proofs.weaving.are_named.Goals as goal
 use Rattle.m2_bytes.proofs.m2_lemmas.Lists.{all_map, all_of_map}
@@ -17,7 +16,7 @@ returns-then-not-all_named c =
     let Q : Strand → Type 0 = λ s. AllByRecursion (IsNamed (names_of c.args.sockets.now)) (strand_now s).items in (
       λ e. absurd (cc),
       λ named. absurd (true≢false (sym (c.all_named.ensures.1
-          (all_get Q c.args.strands.now c.loop-s.s-index nothing_lent (omega arith) (all_of_map P strand_now c.args.strands.now named)))
+          (subst Q (sym c.s-item.is) (all_get Q c.args.strands.now c.loop-s.s-index c.s-item.result (omega arith) (all_of_map P strand_now c.args.strands.now named))))
           ∙ c.if-not-all_named.true)),
     )
 

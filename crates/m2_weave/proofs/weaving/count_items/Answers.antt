@@ -5,7 +5,7 @@ use Rattle.m2_weave.specs.Rule.{strand_at}
 use Rattle.m2_weave.specs.Strands.{StrandNow, strand_now}
 use Rattle.m2_weave.specs.Table.{woven_of}
 use Rattle.m2_weave.specs.Tally.{IsCounted}
-use Rattle.m2_weave.proofs.Items.{next_at, nothing_lent, own_default}
+use Rattle.m2_weave.proofs.Items.{next_at}
 use Rattle.m2_weave.proofs.Whole.{strand_is, counts_next, entries_next}
 use Rattle.m2_weave.proofs.weaving.count_items.Goals as goal
 
@@ -14,9 +14,9 @@ loop-n-preserved c =
     let strands = c.args.strands.now in
     let sockets = c.args.sockets.now in
     let is = (strand_at (woven_of strands sockets) c.args.k).items in
-    let s = slice_index_or strands c.args.k nothing_lent in
+    let s = c.index-strands-k-2.result in
     let same : is ≡ (strand_now s).items = ap (λ (s : StrandNow). s.items)
-    (strand_is strands sockets c.args.k s c.requires.strand (own_default strands c.args.k nothing_lent c.requires.strand)) in
+    (strand_is strands sockets c.args.k s c.requires.strand c.index-strands-k-2.is) in
     let h : c.loop-n.n < length is = omega (arith, c.loop-n-test.true, c.len-n-end.ensures, ap length same) in
     let at = next_at is c.loop-n.left c.next.new.self c.loop-n.n c.next.result h c.loop-n.invariant.left c.next.ensures in
     let one : IsCounted sockets (slice_index_or is c.loop-n.n c.next.result) c.loop-n.counts c.count.new.self c.in_ok-e.e =

@@ -2,7 +2,7 @@
 use Rattle.std.proofs.Common.{refl, ap, sym, subst, ◌∙◌}
 use Rattle.m2_dispatch.specs.Letters.{AreOwned}
 use Rattle.m2_turn.specs.Outbox.{OwnsAll}
-use Rattle.m2_center.proofs.Stages.{consistent_at, empties_mail}
+use Rattle.m2_center.proofs.Stages.{consistent_at, empties_mail, hands_letters}
 use Rattle.m2_center.proofs.center.Center.hand_on.Goals as goal
 
 pub hand_mail_on-requires-clause-out : goal.hand_mail_on-requires-clause-out
@@ -26,4 +26,7 @@ invariant_of-self g c =
     )
 
 pub returns-clause-delivers : goal.returns-clause-delivers
-returns-clause-delivers g c = (c.hand_mail_on.result, c.delivered_so.ensures, empties_mail _ _ c.self.view_is _ _ c.hand_mail_on.result _ _ _ c.hand_mail_on.ensures.mails)
+returns-clause-delivers g c = (
+  (c.hand_mail_on.result, c.delivered_so.ensures, empties_mail _ _ c.self.view_is _ _ c.hand_mail_on.result _ _ _ c.hand_mail_on.ensures.mails),
+  hands_letters _ _ c.self.view_is _ _ _ _ _ c.hand_mail_on.ensures.dispatched,
+)

@@ -1,7 +1,7 @@
 -- So is a turn that hands on.
 use Rattle.std.proofs.Common.{Err, ◌∙◌}
 use Rattle.std.proofs.lemmas.Result.{err_from_is_err_and}
-use Rattle.m2_center.specs.CenterTurn.{AcceptsSo, AndThen, AnswersSo, DeliversSo, StepsSo, means_at}
+use Rattle.m2_center.specs.CenterTurn.{AcceptsSo, AndThen, AnswersSo, HandsOnSo, StepsSo, means_at}
 use Rattle.m2_center.proofs.HandedOn.{accepts_none, answers_none, delivers_none}
 use Rattle.m2_center.proofs.TurnParts.{ends_there, goes_on}
 use Rattle.m2_turn.proofs.MoreHanded.{says_same, says_then}
@@ -13,7 +13,7 @@ returns-in_err-answer-clause-turns g c =
     let E = g.row.P-End.Denot in
     let heard = g.D.Dispatcher.heard in
     let p = err_from_is_err_and c.from_residual-in_err-answer.result c.from_residual-in_err-answer.ensures.1 in
-    let then_delivers = AndThen (StepsSo heard m) (DeliversSo heard m) in
+    let then_delivers = AndThen (StepsSo heard m) (HandsOnSo heard m c.args.into.now.items c.args.into.now.items) in
     rw p.1 (goes_on AcceptsSo (AndThen (AnswersSo E m) then_delivers) c.args.self.now c.accept.new.self c.answer.new.self (Err p.0) c.in_ok-accept.ensures.accepts
     (ends_there (AnswersSo E m) then_delivers c.accept.new.self c.answer.new.self p.0 c.in_err-answer.ensures.answers))
 
@@ -23,20 +23,22 @@ returns-in_err-step-clause-turns g c =
     let E = g.row.P-End.Denot in
     let heard = g.D.Dispatcher.heard in
     let p = err_from_is_err_and c.from_residual-in_err-step.result c.from_residual-in_err-step.ensures.1 in
-    let then_delivers = AndThen (StepsSo heard m) (DeliversSo heard m) in
+    let hands_on = HandsOnSo heard m c.args.into.now.items c.args.into.now.items in
+    let then_delivers = AndThen (StepsSo heard m) hands_on in
     rw p.1 (goes_on AcceptsSo (AndThen (AnswersSo E m) then_delivers) c.args.self.now c.accept.new.self c.step.new.self (Err p.0) c.in_ok-accept.ensures.accepts
     (goes_on (AnswersSo E m) then_delivers c.accept.new.self c.answer.new.self c.step.new.self (Err p.0) c.in_ok-answer.ensures.answers
-    (ends_there (StepsSo heard m) (DeliversSo heard m) c.answer.new.self c.step.new.self p.0 c.in_err-step.ensures.steps)))
+    (ends_there (StepsSo heard m) hands_on c.answer.new.self c.step.new.self p.0 c.in_err-step.ensures.steps)))
 
 pub returns-clause-turns : goal.returns-clause-turns
 returns-clause-turns g c =
     let m = means_at c.args.now c.args.shared.now.numbers c.args.shared.now.throttle in
     let E = g.row.P-End.Denot in
     let heard = g.D.Dispatcher.heard in
-    let then_delivers = AndThen (StepsSo heard m) (DeliversSo heard m) in
+    let hands_on = HandsOnSo heard m c.args.into.now.items c.hand_on.new.into.items in
+    let then_delivers = AndThen (StepsSo heard m) hands_on in
     goes_on AcceptsSo (AndThen (AnswersSo E m) then_delivers) c.args.self.now c.accept.new.self c.hand_on.new.self c.hand_on.result c.in_ok-accept.ensures.accepts
     (goes_on (AnswersSo E m) then_delivers c.accept.new.self c.answer.new.self c.hand_on.new.self c.hand_on.result c.in_ok-answer.ensures.answers
-    (goes_on (StepsSo heard m) (DeliversSo heard m) c.answer.new.self c.step.new.self c.hand_on.new.self c.hand_on.result c.in_ok-step.ensures.steps c.hand_on.ensures.delivers))
+    (goes_on (StepsSo heard m) hands_on c.answer.new.self c.step.new.self c.hand_on.new.self c.hand_on.result c.in_ok-step.ensures.steps c.hand_on.ensures.delivers))
 
 pub returns-in_err-answer-clause-handed : goal.returns-in_err-answer-clause-handed
 returns-in_err-answer-clause-handed g c =
@@ -60,4 +62,4 @@ returns-clause-handed g c =
     (says_same c.args.handed.now _ _
     (answers_none g.row.P-End.Denot m _ c.accept.new.self c.answer.new.self c.answer.ensures.answers ∙ accepts_none _ c.args.self.now c.accept.new.self c.accept.ensures.accepts))
     c.step.ensures.handed)
-    (says_same c.step.new.handed _ _ (delivers_none g.D.Dispatcher.heard m _ c.step.new.self c.hand_on.new.self c.hand_on.ensures.delivers))
+    (says_same c.step.new.handed _ _ (delivers_none g.D.Dispatcher.heard m _ c.step.new.self c.hand_on.new.self c.hand_on.ensures.delivers.0))
