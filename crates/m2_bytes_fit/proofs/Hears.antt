@@ -35,7 +35,7 @@ use Rattle.m2_bytes_fit.proofs.Acceptors.{as_asked, HasWelcomed, IsAsked}
 use Rattle.m2_bytes_fit.proofs.Fronts.{AreFirst, front_items}
 use Rattle.m2_bytes_fit.proofs.Judges.{replied_no_asks}
 use Rattle.m2_bytes_fit.proofs.Kept.{feed_on, view, replied, course_at, heard_of, OpenedFeed, AsksComeFirst, UntakenKept, TakenFeed, TakenKept, KeptBy}
-use Rattle.m2_bytes_fit.proofs.Lists.{cons_same, not_nil, nil_not, none_not_some}
+use Rattle.m2_bytes_fit.proofs.Lists.{not_nil, nil_not, none_not_some}
 use Rattle.m2_bytes_fit.proofs.Openers.{signs_behind}
 use Rattle.m2_bytes_fit.proofs.Points.{Known, turn, all_frames, no_asks_stay, asks_go, nothing_of_nothing, put_first, ReadsFrames, opened_kept, reads_frames, half_asked, opened_by_other, no_map}
 use Rattle.m2_bytes_fit.proofs.Puts.{IsLate, texts_both}
@@ -44,7 +44,7 @@ use Rattle.m2_bytes_fit.proofs.Sent.{refusal_readable}
 use Rattle.m2_bytes_fit.proofs.Steps.{if_some, here_feed, none_isnt}
 use Rattle.m2_feed.proofs.m2_lemmas.Booleans.{from_false_true}
 use Rattle.m2_feed.proofs.m2_fabric.Sockets.{same_refl}
-use Rattle.m2_feed.proofs.m2_lemmas.Lists.{all_append, all_back}
+use Rattle.m2_feed.proofs.m2_lemmas.Lists.{all_append, all_back, cons_same}
 
 -- ---- the texts of replies are those of their frames
 

@@ -1,9 +1,7 @@
 -- Lists that are put together in two ways, and prefixes.
 use Rattle.std.proofs.Common.{◌≡◌, ◌≢◌, ◌⊎◌, inl, inr, List, [], ◌∷◌, ◌++◌, Some, None, refl, sym, ap, ◌∙◌, append_assoc}
 use Rattle.m2_feed.specs.m2_handshake.Laws.{IsPrefix}
-
-pub cons_same : {X : Type 0} (x y : X) (xs ys : List X) → x ∷ xs ≡ y ∷ ys → (x ≡ y) × (xs ≡ ys)
-cons_same x y xs ys e = (cc, cc)
+use Rattle.m2_feed.proofs.m2_lemmas.Lists.{cons_same}
 
 pub cons_is_some : {X : Type 0} (x : X) (xs : List X) → x ∷ xs ≢ []
 cons_is_some x xs e = cc

@@ -29,13 +29,13 @@ use Rattle.m2_bytes_fit.specs.Texts.{CanBeSent, CanAllBeSent, texts_of}
 use Rattle.m2_bytes_fit.proofs.Acceptors.{as_asked, HasWelcomed, IsAsked, accepts}
 use Rattle.m2_bytes_fit.proofs.Fronts.{AreFirst, front_items, nothing_split, begun_is_open}
 use Rattle.m2_bytes_fit.proofs.Kept.{view, greeting_of, OpenedKept, KeptBy}
-use Rattle.m2_bytes_fit.proofs.Lists.{cons_is_some, cons_same, not_nil, nil_not}
+use Rattle.m2_bytes_fit.proofs.Lists.{cons_is_some, not_nil, nil_not}
 use Rattle.m2_bytes_fit.proofs.Puts.{IsLate, texts_both, text_alone}
 use Rattle.m2_bytes_fit.proofs.Says.{NoAsk, CanBeWritten, part, parts_all, unnamed_written, writable, text_made, all_written, texts_made, all_writable}
 use Rattle.m2_bytes_fit.proofs.Steps.{AllKept}
 use Rattle.m2_feed.proofs.m2_lemmas.Booleans.{from_false_true}
 use Rattle.m2_feed.proofs.m2_fabric.Sockets.{same_refl}
-use Rattle.m2_feed.proofs.m2_lemmas.Lists.{all_append, empty_front}
+use Rattle.m2_feed.proofs.m2_lemmas.Lists.{all_append, cons_same, empty_front}
 
 -- ---- what is known at a point
 

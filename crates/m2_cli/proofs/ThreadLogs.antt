@@ -24,6 +24,7 @@ use Rattle.m2_run.specs.m2_node.Way.{IsNodeOf}
 use Rattle.m2_run.specs.m2_links_go_on.OfPeers.{IsPeerOf}
 use Rattle.m2_run.proofs.m2_node.Merging.{AreHomed, homed_alike}
 use Rattle.m2_cli.proofs.ThreadNodes.{at_home}
+use Rattle.m2_fabric.proofs.m2_lemmas.Lists.{flat_map_same}
 
 abbrev Center : Type 0
 Center = CenterNow (List Logged)
@@ -34,10 +35,6 @@ Center = CenterNow (List Logged)
 abbrev pub Alike : (h g : List Heard) → Type 0
 Alike h g = (p : ℕ) → sorted_of h p ≡ sorted_of g p
 
-same_flat : {X Y : Type 0} (f g : X → List Y) → ((x : X) → f x ≡ g x) → (xs : List X) → flat_map f xs ≡ flat_map g xs
-same_flat f g all [] = refl
-same_flat f g all (x ∷ xs) = ap (λ ys. ys ++ flat_map f xs) (all x) ∙ ap (λ ys. g x ++ ys) (same_flat f g all xs)
-
 lines_alike : (names : List Word) (xs : List Node) (hs gs : List (List Heard)) → SideBySide Alike hs gs →
     flat_map (λ p. node_lines true names (name_of p.0) p.1) (zip xs hs) ≡ flat_map (λ p. node_lines true names (name_of p.0) p.1) (zip xs gs)
 lines_alike names [] hs gs all = refl
@@ -46,7 +43,7 @@ lines_alike names (x ∷ xs) [] (g ∷ gs) all = absurd all
 lines_alike names (x ∷ xs) (h ∷ hs) [] all = absurd all
 lines_alike names (x ∷ xs) (h ∷ hs) (g ∷ gs) all =
     let its : node_lines true names (name_of x) h ≡ node_lines true names (name_of x) g =
-    ap (flat_map (line_of names (name_of x))) (same_flat (sorted_of h) (sorted_of g) all.0 (range_with_len 0 (length names))) in
+    ap (flat_map (line_of names (name_of x))) (flat_map_same (sorted_of h) (sorted_of g) all.0 (range_with_len 0 (length names))) in
     ap (λ ls. ls ++ flat_map (λ p. node_lines true names (name_of p.0) p.1) (zip xs hs)) its ∙ ap (λ ls. node_lines true names (name_of x) g ++ ls) (lines_alike names xs hs gs all.1)
 
 pub report_alike : (nodes : List Node) (hs gs : List (List Heard)) → SideBySide Alike hs gs → report_of true nodes hs ≡ report_of true nodes gs

@@ -4,7 +4,7 @@ use Rattle.std.specs.Prelude.{◌≢◌, ◌⊎◌, IfSome, IsSome, nat_lt}
 use Rattle.std.specs.List.{AllByRecursion}
 use Rattle.std.specs.Option.{option_map}
 use Rattle.std.proofs.lemmas.List.{map-append}
-use Rattle.m2_fabric.proofs.m2_lemmas.Lists.{all_last}
+use Rattle.m2_fabric.proofs.m2_lemmas.Lists.{all_last, cons_same}
 use Rattle.m2_fabric.proofs.m2_lemmas.Options.{of_some, some_same}
 use Rattle.m2_fabric.specs.End.{SeenEnd}
 use Rattle.m2_fabric.specs.Kinds.{IsInMemory, WaitInMemory}
@@ -21,7 +21,6 @@ use Rattle.m2_script.specs.m2_center.m2_turn.declared.accepting.Accepted.{Accept
 use Rattle.m2_script.specs.m2_center.m2_turn.declared.accepting.Accepted.TheVariants as accepts
 use Rattle.m2_script.specs.m2_center.m2_turn.declared.accepting.TheConstants.{MOST_ACCEPTS}
 use Rattle.m2_script.specs.m2_center.m2_turn.declared.pending.TheConstants.{MOST_HALVES}
-use Rattle.m2_exact.proofs.Lists.{heads}
 use Rattle.m2_exact.specs.Accepts.{AreInMemory, LikePortsAcceptAlike, plain_accepting, plain_halves, plain_pending}
 
 -- ---- one socket
@@ -64,7 +63,7 @@ takes_one entity old last new behind some like h g =
     let ports : old.port ≡ last.port = ap (λ (a : Accepting). a.port) like in
     let a = gave h.end old.port new.port some h.gives in
     let b = gave g.end last.port behind.port (subst (λ (p : SeenPort). IsSome p.waiting) ports some) g.gives in
-    let both = heads h.end g.end a.rest b.rest (some_same (h.end ∷ a.rest) (g.end ∷ b.rest) (sym a.waited ∙ ap (λ (p : SeenPort). p.waiting) ports ∙ b.waited)) in
+    let both = cons_same h.end g.end a.rest b.rest (some_same (h.end ∷ a.rest) (g.end ∷ b.rest) (sym a.waited ∙ ap (λ (p : SeenPort). p.waiting) ports ∙ b.waited)) in
     ap (λ (p : SeenPort). record (plain_accepting new) { port = p })
     (a.leaves
     ∙ ap (λ (e : SeenEnd). record old.port { made = old.port.made ++ e.id ∷ []; quiet = false; waiting = Some a.rest }) both.0

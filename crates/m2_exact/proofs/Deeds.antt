@@ -4,7 +4,7 @@ use Rattle.std.specs.List.{AllByRecursion, flat_map}
 use Rattle.std.specs.Option.{option_map}
 use Rattle.std.proofs.lemmas.List.{length-map}
 use Rattle.m2_dispatch.specs.Heard.{Heard}
-use Rattle.m2_fabric.proofs.m2_lemmas.Lists.{all_at}
+use Rattle.m2_fabric.proofs.m2_lemmas.Lists.{all_at, cons_same}
 use Rattle.m2_fabric.specs.End.{SeenEnd}
 use Rattle.m2_fabric.specs.InStep.{Network, SeenFabric}
 use Rattle.m2_fabric.specs.SimFabric.{Faults, Flows, Meets, looked_at}
@@ -26,7 +26,7 @@ use Rattle.m2_script.specs.m2_center.m2_feed.m2_journal.declared.facts.PlanStep.
 use Rattle.m2_script.specs.m2_center.m2_feed.m2_session.declared.session.Phase.{Phase}
 use Rattle.m2_script.specs.m2_center.m2_record.RecordNow.{RecordNow, ends_of, feed_end, ids_of}
 use Rattle.m2_script.specs.m2_center.m2_record.Sources.{end_at}
-use Rattle.m2_exact.proofs.Lists.{all_like, all_set, heads, map_get, map_set, of_set, said_at}
+use Rattle.m2_exact.proofs.Lists.{all_like, all_set, map_get, map_set, of_set, said_at}
 use Rattle.m2_exact.proofs.Networks as networks
 use Rattle.m2_exact.proofs.Nodes as nodes
 use Rattle.m2_exact.proofs.Told as told
@@ -111,9 +111,9 @@ module _ {D : Type 0} (E : Type 0) (heard : D → List Heard) where
       map (plain_node heard) news ≡ map (plain_node heard) behinds
   all_told [] [] [] [] like h g whole entire apart ends line = refl
   all_told (o ∷ os) (l ∷ ls) (n ∷ ns) (b ∷ bs) like h g whole entire apart ends line =
-      let likes = heads (plain_node heard o) (plain_node heard l) (map (plain_node heard) os) (map (plain_node heard) ls) like in
-      let hs = heads (rest_of_node n) (rest_of_node o) (map rest_of_node ns) (map rest_of_node os) h in
-      let gs = heads (rest_of_node b) (rest_of_node l) (map rest_of_node bs) (map rest_of_node ls) g in
+      let likes = cons_same (plain_node heard o) (plain_node heard l) (map (plain_node heard) os) (map (plain_node heard) ls) like in
+      let hs = cons_same (rest_of_node n) (rest_of_node o) (map rest_of_node ns) (map rest_of_node os) h in
+      let gs = cons_same (rest_of_node b) (rest_of_node l) (map rest_of_node bs) (map rest_of_node ls) g in
       ap (λ x. x ∷ map (plain_node heard) ns) (told.alike heard o l n b likes.0 hs.0 gs.0 whole.0.port entire.0.port apart.0 (ends zero) (line zero))
       ∙ ap (λ xs. plain_node heard b ∷ xs) (all_told os ls ns bs likes.1 hs.1 gs.1 whole.1 entire.1 apart.1 (λ k. ends (suc k)) (λ k. line (suc k)))
   all_told [] (l ∷ ls) news behinds like h g whole entire apart ends line = absurd (cc like)
@@ -148,7 +148,7 @@ module _ {D : Type 0} (E : Type 0) (heard : D → List Heard) where
   all_fit : (olds news : List (NodeNow D)) → AllByRecursion IsFitNode olds → map rest_of_node news ≡ map rest_of_node olds → AllByRecursion IsWholeNode news → AllByRecursion IsFitNode news
   all_fit [] [] f h whole = tt
   all_fit (o ∷ os) (n ∷ ns) f h whole =
-      let hs = heads (rest_of_node n) (rest_of_node o) (map rest_of_node ns) (map rest_of_node os) h in
+      let hs = cons_same (rest_of_node n) (rest_of_node o) (map rest_of_node ns) (map rest_of_node os) h in
       (fit_told o n f.0 hs.0 whole.0, all_fit os ns f.1 hs.1 whole.1)
   all_fit [] (n ∷ ns) f h whole = absurd (cc h)
   all_fit (o ∷ os) [] f h whole = absurd (cc h)

@@ -4,7 +4,7 @@ use Rattle.std.specs.Prelude.{◌≢◌, ◌⊎◌, IfSome, IsSome}
 use Rattle.std.specs.List.{AllByRecursion}
 use Rattle.std.specs.Option.{option_map}
 use Rattle.m2_control.proofs.Raised.{main_same}
-use Rattle.m2_fabric.proofs.m2_lemmas.Lists.{all_at}
+use Rattle.m2_fabric.proofs.m2_lemmas.Lists.{all_at, cons_same}
 use Rattle.m2_fabric.proofs.m2_lemmas.Options.{some_same}
 use Rattle.m2_fabric.specs.Kinds.{IsInMemory}
 use Rattle.m2_fabric.specs.m2_addr.Vector.{main_of}
@@ -32,7 +32,7 @@ use Rattle.m2_script.specs.m2_center.m2_turn.m2_handshake.declared.ask.Ask.TheVa
 use Rattle.m2_script.specs.m2_center.m2_record.RecordNow.{RecordNow}
 use Rattle.m2_exact.proofs.Advances as advances
 use Rattle.m2_exact.proofs.Answers as answers
-use Rattle.m2_exact.proofs.Lists.{all_set, heads, map_get, map_set}
+use Rattle.m2_exact.proofs.Lists.{all_set, map_get, map_set}
 use Rattle.m2_exact.specs.Accepts.{plain_pending}
 use Rattle.m2_exact.specs.Answers as answering
 use Rattle.m2_exact.specs.Answers.{PlainJudging, StaysInMemory, bare_answered, plain_judging}
@@ -250,7 +250,7 @@ module _ (E : Type 0) (m : Means) where
       ∙ sym (turned_back other l)
 
   same_on : (x y : Moved E) (p q : PendingNow) → IsGoing x p → IsGoing y q → Alike x y → plain_pending p ≡ plain_pending q
-  same_on x y p q h g a = (heads (plain_pending p) (plain_pending q) [] [] (sym (ap (map plain_pending) h.halves) ∙ alike_halves x y a ∙ ap (map plain_pending) g.halves)).0
+  same_on x y p q h g a = (cons_same (plain_pending p) (plain_pending q) [] [] (sym (ap (map plain_pending) h.halves) ∙ alike_halves x y a ∙ ap (map plain_pending) g.halves)).0
 
   ends_or_goes : (x y : Moved E) (one : HalfTurned E) (q : PendingNow) → IsEnd x one → IsGoing y q → Alike x y → ⊥
   ends_or_goes x y one q h g (inl a) =

@@ -2,7 +2,7 @@
 use Rattle.std.proofs.Common.{◌≡◌, ◌++◌, List, [], ◌∷◌, map, false, refl, sym, subst, ◌∙◌, ap}
 use Rattle.std.specs.List.{AllByRecursion}
 use Rattle.std.proofs.lemmas.List.{map-append}
-use Rattle.m2_fabric.proofs.m2_lemmas.Lists.{all_append}
+use Rattle.m2_fabric.proofs.m2_lemmas.Lists.{all_append, cons_same}
 use Rattle.m2_trail.specs.Arrivals.{LooseNow}
 use Rattle.m2_script.specs.m2_center.m2_turn.HalvesTurn.{Callers, HadMemory, HalfTurns, HalvesTurning, OldestTurns, TurnLeadsOn, TurnsHalves, all_wait, callers_in, over_by, stays_by}
 use Rattle.m2_script.specs.m2_center.m2_turn.Hearing.{IsHalfInMemory}
@@ -12,7 +12,6 @@ use Rattle.m2_script.specs.m2_center.m2_turn.declared.half_turn.HalfTurned.{Half
 use Rattle.m2_script.specs.m2_center.m2_turn.declared.half_turn.HalfTurned.TheVariants as turned
 use Rattle.m2_script.specs.m2_center.m2_turn.declared.halves_turn.HalvesTurn.TheVariants as turn
 use Rattle.m2_exact.proofs.HalfTurns as one
-use Rattle.m2_exact.proofs.Lists.{heads}
 use Rattle.m2_exact.specs.Accepts.{plain_pending}
 use Rattle.m2_exact.specs.HalfTurns.{PlainHomes, bare_turned, lacks, plain_homes}
 use Rattle.m2_exact.specs.HalvesTurns.{AreFitCallers, LikeAllHalvesTurnAlike, PlainCallers, plain_callers}
@@ -70,7 +69,7 @@ module _ (E : Type 0) (m : Means) where
   turns_one : (old last new behind : HalvesTurning) → HasAlone m → AreFit old → plain_turning old ≡ plain_turning last → TurnLeadsOn E m old new → TurnLeadsOn E m last behind →
       plain_turning new ≡ plain_turning behind
   turns_one old last new behind alone f like h g =
-      let firsts = heads (plain_pending h.turns.oldest) (plain_pending g.turns.oldest) (map plain_pending new.waiting) (map plain_pending behind.waiting)
+      let firsts = cons_same (plain_pending h.turns.oldest) (plain_pending g.turns.oldest) (map plain_pending new.waiting) (map plain_pending behind.waiting)
       (sym (ap (map plain_pending) h.turns.waited) ∙ ap (λ (t : PlainTurning). t.waiting) like ∙ ap (map plain_pending) g.turns.waited) in
       let there = subst (AllByRecursion IsHalfInMemory) h.turns.waited f.waiting in
       let both = one.alike.turns m h.result g.result h.turns.oldest g.turns.oldest old.homes last.homes new.homes behind.homes alone there.0 f.records firsts.0 (ap (λ (t : PlainTurning). t.homes) like)

@@ -7,7 +7,7 @@ use Rattle.m2_dispatch.specs.Heard.{Heard}
 use Rattle.m2_dispatch.specs.Letters.{granted}
 use Rattle.m2_dispatch.specs.m2_shared.Place.{IsAlone, Place}
 use Rattle.m2_dispatch.specs.m2_shared.Throttle.{SeenThrottle}
-use Rattle.m2_fabric.proofs.m2_lemmas.Lists.{all_at}
+use Rattle.m2_fabric.proofs.m2_lemmas.Lists.{all_at, cons_same}
 use Rattle.m2_fabric.specs.m2_bytes.declared.memory.NoMemory as memory
 use Rattle.m2_script.specs.m2_center.Center.{CenterNow}
 use Rattle.m2_script.specs.m2_center.CenterTurn as center
@@ -38,7 +38,7 @@ use Rattle.m2_exact.proofs.HeldSteps as steps
 use Rattle.m2_exact.proofs.HeldSteps.{Less}
 use Rattle.m2_exact.proofs.HeldSums as sums
 use Rattle.m2_exact.proofs.HeldSums.{Follows}
-use Rattle.m2_exact.proofs.Lists.{all_like, all_set, heads}
+use Rattle.m2_exact.proofs.Lists.{all_like, all_set}
 use Rattle.m2_exact.specs.Holding.{CentersHoldTheirWords, HoldsItsWord, HoldsRightly, IsHeldRightly, NodeHoldsItsWord, held_in_record, held_in_records, held_in_center}
 
 -- ---- the parts of a turn
@@ -178,7 +178,7 @@ told_sum [] [] same = refl
 told_sum [] (s ∷ ss) same = absurd (cc same)
 told_sum (r ∷ rs) [] same = absurd (cc same)
 told_sum (r ∷ rs) (s ∷ ss) same =
-    let both = heads (untold_record r) (untold_record s) (map untold_record rs) (map untold_record ss) same in
+    let both = cons_same (untold_record r) (untold_record s) (map untold_record rs) (map untold_record ss) same in
     let here : held_in_record r ≡ held_in_record s = ap held_in_record both.0 in
     let rest = told_sum rs ss both.1 in
     let one = sums.sum_first held_in_record r rs in

@@ -5,7 +5,7 @@ use Rattle.std.specs.Option.{option_to_list}
 use Rattle.m2_dispatch.specs.Heard.{Heard, heard_by}
 use Rattle.m2_dispatch.specs.declared.logged.Logged.{Logged}
 use Rattle.m2_dispatch.specs.m2_shared.Throttle.{SeenThrottle}
-use Rattle.m2_fabric.proofs.m2_lemmas.Lists.{all_append, all_at, all_by_places, all_of_map}
+use Rattle.m2_fabric.proofs.m2_lemmas.Lists.{all_append, all_at, all_by_places, all_of_map, cons_same}
 use Rattle.m2_fabric.specs.InStep.{Network}
 use Rattle.m2_fabric.specs.SimFabric.{Faults, Flows, Meets}
 use Rattle.m2_scenario.specs.declared.line.Line.{Line}
@@ -25,7 +25,7 @@ use Rattle.m2_script.specs.m2_cluster.Node.{NodeNow, rest_of_node}
 use Rattle.m2_exact.proofs.HeldCenters as nodes
 use Rattle.m2_exact.proofs.HeldCores as cores
 use Rattle.m2_exact.proofs.HeldSums as sums
-use Rattle.m2_exact.proofs.Lists.{all_set, heads, there_too}
+use Rattle.m2_exact.proofs.Lists.{all_set, there_too}
 use Rattle.m2_exact.specs.Holding.{HoldsRightly, NodeHoldsItsWord, NodesHoldTheirWords, RunsHoldTheirWords, WordsStayHeld, held_in_record, held_in_records, held_in_center}
 
 -- ---- the beginning
@@ -96,7 +96,7 @@ module _ {D : Type 0} (E : Type 0) (heard : D → List Heard) where
   all_told [] (n ∷ ns) h same = absurd (cc same)
   all_told (o ∷ os) [] h same = absurd (cc same)
   all_told (o ∷ os) (n ∷ ns) (h, more) same =
-      let both = heads (rest_of_node n) (rest_of_node o) (map rest_of_node ns) (map rest_of_node os) same in
+      let both = cons_same (rest_of_node n) (rest_of_node o) (map rest_of_node ns) (map rest_of_node os) same in
       (nodes.told o n both.0 h, all_told os ns more both.1)
 
   passed : (how : Network → Network → Type 0) (s new : RunNow D) → NodesHoldTheirWords s → IsPassed (Ok tt) how s new → NodesHoldTheirWords new

@@ -1,9 +1,7 @@
 -- Lists of which a function makes the same.
 use Rattle.std.proofs.Common.{◌≡◌, ℕ, zero, suc, List, [], ◌∷◌, length, map, slice_get, slice_set, Option, Some, refl, sym, ◌∙◌, ap, arith}
 use Rattle.std.specs.List.{AllByRecursion}
-
-pub heads : {Y : Type 0} (x y : Y) (xs ys : List Y) → x ∷ xs ≡ y ∷ ys → (x ≡ y) × (xs ≡ ys)
-heads x y xs ys e = (cc e, cc e)
+use Rattle.m2_fabric.proofs.m2_lemmas.Lists.{cons_same}
 
 pub mapped_twice : {X Y Z : Type 0} (f : Y → Z) (g : X → Y) (xs : List X) → map f (map g xs) ≡ map (λ x. f (g x)) xs
 mapped_twice f g [] = refl
@@ -14,19 +12,19 @@ mapped_twice f g (x ∷ xs) = ap (λ ys. f (g x) ∷ ys) (mapped_twice f g xs)
 pub map_get : {X Y : Type 0} (f : X → Y) (xs ys : List X) (k : ℕ) (x y : X) → map f xs ≡ map f ys → slice_get xs k ≡ Some x → slice_get ys k ≡ Some y → f x ≡ f y
 map_get f [] ys k x y same h g = absurd (cc h)
 map_get f (a ∷ xs) [] k x y same h g = absurd (cc g)
-map_get f (a ∷ xs) (b ∷ ys) zero x y same h g = ap f (sym (one a x h)) ∙ (heads (f a) (f b) (map f xs) (map f ys) same).0 ∙ ap f (one b y g)
+map_get f (a ∷ xs) (b ∷ ys) zero x y same h g = ap f (sym (one a x h)) ∙ (cons_same (f a) (f b) (map f xs) (map f ys) same).0 ∙ ap f (one b y g)
   where
     one : {X : Type 0} (p q : X) → Some p ≡ Some q → p ≡ q
     one p q e = cc e
-map_get f (a ∷ xs) (b ∷ ys) (suc k) x y same h g = map_get f xs ys k x y (heads (f a) (f b) (map f xs) (map f ys) same).1 h g
+map_get f (a ∷ xs) (b ∷ ys) (suc k) x y same h g = map_get f xs ys k x y (cons_same (f a) (f b) (map f xs) (map f ys) same).1 h g
 
 pub map_set : {X Y : Type 0} (f : X → Y) (xs ys : List X) (k : ℕ) (x y : X) → map f xs ≡ map f ys → f x ≡ f y → map f (slice_set xs k x) ≡ map f (slice_set ys k y)
 map_set f [] [] k x y same e = refl
 map_set f [] (b ∷ ys) k x y same e = absurd (cc same)
 map_set f (a ∷ xs) [] k x y same e = absurd (cc same)
-map_set f (a ∷ xs) (b ∷ ys) zero x y same e = ap (λ z. z ∷ map f xs) e ∙ ap (λ zs. f y ∷ zs) (heads (f a) (f b) (map f xs) (map f ys) same).1
+map_set f (a ∷ xs) (b ∷ ys) zero x y same e = ap (λ z. z ∷ map f xs) e ∙ ap (λ zs. f y ∷ zs) (cons_same (f a) (f b) (map f xs) (map f ys) same).1
 map_set f (a ∷ xs) (b ∷ ys) (suc k) x y same e =
-    let both = heads (f a) (f b) (map f xs) (map f ys) same in
+    let both = cons_same (f a) (f b) (map f xs) (map f ys) same in
     ap (λ z. z ∷ map f (slice_set xs k x)) both.0 ∙ ap (λ zs. f b ∷ zs) (map_set f xs ys k x y both.1 e)
 
 -- what is said of an item, if there is one, by what the function makes of it
@@ -35,8 +33,8 @@ pub said_at : {X Y Z : Type 0} (f : X → Y) (says : Option X → Z) → ((x y :
 said_at f says so [] [] same k = refl
 said_at f says so [] (y ∷ ys) same k = absurd (cc same)
 said_at f says so (x ∷ xs) [] same k = absurd (cc same)
-said_at f says so (x ∷ xs) (y ∷ ys) same zero = so x y (heads (f x) (f y) (map f xs) (map f ys) same).0
-said_at f says so (x ∷ xs) (y ∷ ys) same (suc k) = said_at f says so xs ys (heads (f x) (f y) (map f xs) (map f ys) same).1 k
+said_at f says so (x ∷ xs) (y ∷ ys) same zero = so x y (cons_same (f x) (f y) (map f xs) (map f ys) same).0
+said_at f says so (x ∷ xs) (y ∷ ys) same (suc k) = said_at f says so xs ys (cons_same (f x) (f y) (map f xs) (map f ys) same).1 k
 
 -- lists that are as long, and of which it makes the same at each place
 pub by_places : {X Y : Type 0} (f : X → Y) (xs ys : List X) → length xs ≡ length ys → ((k : ℕ) (x y : X) → slice_get xs k ≡ Some x → slice_get ys k ≡ Some y → f x ≡ f y) → map f xs ≡ map f ys
@@ -71,5 +69,5 @@ all_like f P so [] [] same all = tt
 all_like f P so [] (y ∷ ys) same all = absurd (cc same)
 all_like f P so (x ∷ xs) [] same all = absurd (cc same)
 all_like f P so (x ∷ xs) (y ∷ ys) same all =
-    let both = heads (f x) (f y) (map f xs) (map f ys) same in
+    let both = cons_same (f x) (f y) (map f xs) (map f ys) same in
     (so x y both.0 all.0, all_like f P so xs ys both.1 all.1)

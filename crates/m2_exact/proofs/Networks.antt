@@ -17,14 +17,10 @@ use Rattle.m2_fabric.specs.SimFabric.{Enters, Faults, Flows, IsPassedOn, IsTold,
 use Rattle.m2_fabric.specs.Sockets.{goes_to, is_among}
 use Rattle.m2_fabric.specs.declared.end.News.TheVariants as news
 use Rattle.m2_fabric.specs.declared.socket.SocketId.{SocketId}
-use Rattle.m2_fabric.proofs.m2_lemmas.Lists.{map_same}
+use Rattle.m2_fabric.proofs.m2_lemmas.Lists.{flat_map_same, map_same}
 use Rattle.m2_exact.specs.Networks.{LikeHolders, LikeNetworks, LikeNetworksPassAlike, StayAlike}
 
 -- ---- lists
-
-all_mapped : {X Y : Type 0} (f g : X → List Y) → ((x : X) → f x ≡ g x) → (xs : List X) → flat_map f xs ≡ flat_map g xs
-all_mapped f g same [] = refl
-all_mapped f g same (x ∷ xs) = ap (λ ys. ys ++ flat_map f xs) (same x) ∙ ap (λ ys. g x ++ ys) (all_mapped f g same xs)
 
 -- ---- what is told
 
@@ -44,7 +40,7 @@ told_same what one other same d =
 
 all_told_same : (what : _) (one other : Logs) → SameLogs one other → (ds : _) (e : EndName) → told_to what one ds e ≡ told_to what other ds e
 all_told_same what one other same ds e =
-    all_mapped (λ d. if same_end (reader d) e then told_by what one d else []) (λ d. if same_end (reader d) e then told_by what other d else [])
+    flat_map_same (λ d. if same_end (reader d) e then told_by what one d else []) (λ d. if same_end (reader d) e then told_by what other d else [])
     (λ d. ap (λ ts. if same_end (reader d) e then ts else []) (told_same what one other same d)) ds
 
 progress_same : (what : _) (one other : Logs) → SameLogs one other → (d : _) → progress_by what one d ≡ progress_by what other d

@@ -6,7 +6,7 @@ use Rattle.std.proofs.lemmas.List.{length-map}
 use Rattle.m2_dispatch.specs.Heard.{Heard}
 use Rattle.m2_dispatch.specs.m2_shared.Numbers.{SeenNumbers}
 use Rattle.m2_dispatch.specs.m2_shared.Throttle.{SeenThrottle}
-use Rattle.m2_fabric.proofs.m2_lemmas.Lists.{all_at, all_back, all_front, all_of_map, all_so}
+use Rattle.m2_fabric.proofs.m2_lemmas.Lists.{all_at, all_back, all_front, all_of_map, all_so, cons_same}
 use Rattle.m2_fabric.specs.End.{SeenEnd}
 use Rattle.m2_fabric.specs.Kinds.{IsInMemory}
 use Rattle.m2_script.specs.m2_center.Center.{CenterNow}
@@ -24,7 +24,7 @@ use Rattle.m2_script.specs.m2_center.m2_record.Calls.{planned_too, returned_by}
 use Rattle.m2_script.specs.m2_center.m2_record.RecordNow.{RecordNow, ends_of, feed_end}
 use Rattle.m2_exact.proofs.Centers as centers
 use Rattle.m2_exact.proofs.Dialing as dialing
-use Rattle.m2_exact.proofs.Lists.{all_set, heads, map_get, map_set}
+use Rattle.m2_exact.proofs.Lists.{all_set, map_get, map_set}
 use Rattle.m2_exact.proofs.Signing as signing
 use Rattle.m2_exact.specs.Centers.{IsFitCenter, LikeCentersTurnAlike, PlainCenter, plain_center}
 use Rattle.m2_exact.specs.Cores.{OnMemory}
@@ -66,7 +66,7 @@ first_same peer [] [] like = refl
 first_same peer [] (s ∷ ss) like = absurd (cc like)
 first_same peer (r ∷ rs) [] like = absurd (cc like)
 first_same peer (r ∷ rs) (s ∷ ss) like =
-    let both = heads (plain r) (plain s) (map plain rs) (map plain ss) like in
+    let both = cons_same (plain r) (plain s) (map plain rs) (map plain ss) like in
     let rest = first_same peer rs ss both.1 in
     ap (λ (x : RecordNow). prefix_len (λ r. not (is_towards peer r)) (x ∷ rs)) both.0
     ∙ ap (λ n. cond (not (is_towards peer s)) (1 + n) 0) rest

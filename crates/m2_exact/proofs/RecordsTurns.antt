@@ -18,11 +18,11 @@ use Rattle.m2_script.specs.m2_center.m2_turn.declared.record_turn.RecordTurn.The
 use Rattle.m2_script.specs.m2_center.m2_turn.declared.records_turn.RecordsTurn.TheVariants as turn
 use Rattle.m2_script.specs.m2_center.m2_record.RecordNow.{RecordNow}
 use Rattle.m2_exact.proofs.Dialing as dialing
-use Rattle.m2_exact.proofs.Lists.{heads}
 use Rattle.m2_exact.proofs.RecordTurns as turns
 use Rattle.m2_exact.specs.Records.{bare_numbers, bare_take, plain}
 use Rattle.m2_exact.specs.RecordTurns.{HasAlone, IsFit, PlainOut, PlainTurning, Turned, plain_out, plain_turning}
 use Rattle.m2_exact.specs.RecordsTurns.{AreFit, IsFitAt, LikeAllRecordsTurnAlike, PlainAll, PlainAt, plain_all, plain_at}
+use Rattle.m2_fabric.proofs.m2_lemmas.Lists.{cons_same}
 
 -- what stands around a record, as far as it counts
 record PlainAround : Type 0 where
@@ -157,7 +157,7 @@ module _ {D : Type 0} (heard : D → List Heard) (m : Means) where
       (map plain (sides_of stood) ≡ map plain (sides_of more)) × (plain_around new ≡ plain_around behind)
   each [] [] [] [] a b new behind alone f some like same h g none held = (refl, ap plain_around h ∙ same ∙ sym (ap plain_around g))
   each (r ∷ rs) (s ∷ ss) (x ∷ xs) (y ∷ ys) a b new behind alone f some like same (h, rest) (g, others) none held =
-      let firsts = heads (plain r) (plain s) (map plain rs) (map plain ss) like in
+      let firsts = cons_same (plain r) (plain s) (map plain rs) (map plain ss) like in
       let first = none_before rs xs x.around new rest none in
       let here = turns_one (amid r a) (amid s b) x y alone f.0 some (record { side = firsts.0; around = same }) h g first (none_before ss ys y.around behind others held) in
       let stays = stays_if (is_free a.out) (amid r a) x (record { side = f.0; port = some }) h first in

@@ -46,11 +46,11 @@ use Rattle.m2_script.specs.m2_center.m2_turn.m2_handshake.declared.answer.HalfSt
 use Rattle.m2_exact.proofs.Composing as composing
 use Rattle.m2_exact.proofs.Cores as cores
 use Rattle.m2_exact.proofs.Framing as framing
-use Rattle.m2_exact.proofs.Lists.{heads}
 use Rattle.m2_exact.proofs.Nexts as nexts
 use Rattle.m2_exact.proofs.Plain as calls
 use Rattle.m2_exact.specs.Cores.{FeedIsInMemory, roomless, roomless_feed}
 use Rattle.m2_exact.specs.Records.{AreAlone, Begun, Took, bare_numbers, bare_take, begun, done, plain}
+use Rattle.m2_fabric.proofs.m2_lemmas.Lists.{cons_same}
 
 -- ---- which step is due
 
@@ -186,7 +186,7 @@ reads x y now r s new behind here like m k h g =
 
 hands : (x y : Parcel) (r s new behind : RecordNow) → plain r ≡ plain s → HandsOut (Some x) r new → HandsOut (Some y) s behind → (x ≡ y) × (plain new ≡ plain behind)
 hands x y r s new behind like (is, only) (are, last) =
-    let both = heads x y new.parcels behind.parcels (sym is ∙ ap (λ (z : RecordNow). z.parcels) like ∙ are) in (
+    let both = cons_same x y new.parcels behind.parcels (sym is ∙ ap (λ (z : RecordNow). z.parcels) like ∙ are) in (
       both.0,
       ap plain only
           ∙ ap (λ (ps : List Parcel). record (plain r) { parcels = ps; handed = r.handed + 1 }) both.1

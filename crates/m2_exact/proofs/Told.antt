@@ -10,7 +10,7 @@ use Rattle.m2_fabric.specs.End.{SeenEnd}
 use Rattle.m2_fabric.specs.Port.{SeenPort}
 use Rattle.m2_fabric.specs.Sockets.{same_socket}
 use Rattle.m2_fabric.specs.declared.socket.SocketId.{SocketId}
-use Rattle.m2_fabric.proofs.m2_lemmas.Lists.{map_same}
+use Rattle.m2_fabric.proofs.m2_lemmas.Lists.{cons_same, map_same}
 use Rattle.m2_script.specs.m2_center.Center.{CenterNow}
 use Rattle.m2_script.specs.m2_center.Reaching.{all_ends_in, ends_in, ends_or_none, untold, untold_feed, untold_half, untold_loose, untold_record, rest_in, waiting_at}
 use Rattle.m2_script.specs.m2_cluster.Node.{NodeNow, end_in, line_in, rest_at, rest_of_node}
@@ -23,7 +23,7 @@ use Rattle.m2_script.specs.m2_center.m2_feed.FeedNow.{FeedNow}
 use Rattle.m2_script.specs.m2_center.m2_record.RecordNow.{RecordNow, ends_of, feed_end, ids_of}
 use Rattle.m2_script.specs.m2_center.m2_record.Sources.{end_at}
 use Rattle.m2_script.proofs.m2_center.m2_turn.m2_record.Ends.{end-first}
-use Rattle.m2_exact.proofs.Lists.{heads, mapped_twice}
+use Rattle.m2_exact.proofs.Lists.{mapped_twice}
 use Rattle.m2_exact.specs.Accepts.{plain_halves, plain_pending}
 use Rattle.m2_exact.specs.Centers.{PlainCenter, plain_center}
 use Rattle.m2_exact.specs.Cores.{roomless_feed}
@@ -47,7 +47,7 @@ by_sockets [] [] ids own same = refl
 by_sockets [] (f ∷ fs) ids own same = absurd (cc ids)
 by_sockets (e ∷ es) [] ids own same = absurd (cc ids)
 by_sockets (e ∷ es) (f ∷ fs) ids own same =
-    let both = heads e.id f.id (ids_of es) (ids_of fs) ids in
+    let both = cons_same e.id f.id (ids_of es) (ids_of fs) ids in
     let first : e ≡ f = one_end e f (sym (end-first e es) ∙ same e.id ∙ ap (end_at (f ∷ fs)) both.0 ∙ end-first f fs) in
     ap (λ x. x ∷ es) first ∙ ap (λ xs. f ∷ xs) (by_sockets es fs both.1 own.1 (λ k. rest both.0 both.1 k (same_socket k e.id) refl))
   where
@@ -71,8 +71,8 @@ with_ends known end all so [] [] same es fs ends = (refl, ends)
 with_ends known end all so [] (y ∷ ys) same es fs ends = absurd (cc same)
 with_ends known end all so (x ∷ xs) [] same es fs ends = absurd (cc same)
 with_ends known end all so (x ∷ xs) (y ∷ ys) same es fs ends =
-    let both = heads (known x) (known y) (map known xs) (map known ys) same in
-    let first = heads (end x) (end y) (map end xs ++ es) (map end ys ++ fs) ends in
+    let both = cons_same (known x) (known y) (map known xs) (map known ys) same in
+    let first = cons_same (end x) (end y) (map end xs ++ es) (map end ys ++ fs) ends in
     let more = with_ends known end all so xs ys both.1 es fs first.1 in
     (ap (λ z. z ∷ map all xs) (so x y both.0 first.0) ∙ ap (λ zs. all y ∷ zs) more.0, more.1)
 
@@ -119,7 +119,7 @@ record_told r s same es fs ends = by r.core.live.feed s.core.live.feed refl refl
     by (Some v) (Some w) is are feeds ends =
         let shown : v.end ∷ (r.spent ++ es) ≡ w.end ∷ (s.spent ++ fs) =
         sym (ap (λ (o : Option FeedNow). (feed_end o ++ r.spent) ++ es) is) ∙ ends ∙ ap (λ (o : Option FeedNow). (feed_end o ++ s.spent) ++ fs) are in
-        let first = heads v.end w.end (r.spent ++ es) (s.spent ++ fs) shown in
+        let first = cons_same v.end w.end (r.spent ++ es) (s.spent ++ fs) shown in
         let feed : roomless_feed (untold_feed v) ≡ roomless_feed (untold_feed w) =
         some_feed (roomless_feed (untold_feed v)) (roomless_feed (untold_feed w))
         (sym (ap (λ (o : Option FeedNow). option_map roomless_feed (option_map untold_feed o)) is) ∙ feeds ∙ ap (λ (o : Option FeedNow). option_map roomless_feed (option_map untold_feed o)) are) in
@@ -143,7 +143,7 @@ records_told [] [] same es fs ends = (refl, ends)
 records_told [] (s ∷ ss) same es fs ends = absurd (cc same)
 records_told (r ∷ rs) [] same es fs ends = absurd (cc same)
 records_told (r ∷ rs) (s ∷ ss) same es fs ends =
-    let both = heads (known_record r) (known_record s) (map known_record rs) (map known_record ss) same in
+    let both = cons_same (known_record r) (known_record s) (map known_record rs) (map known_record ss) same in
     let first = record_told r s both.0 (flat_map ends_of rs ++ es) (flat_map ends_of ss ++ fs)
     (sym (append_assoc (ends_of r) (flat_map ends_of rs) es) ∙ ends ∙ append_assoc (ends_of s) (flat_map ends_of ss) fs) in
     let more = records_told rs ss both.1 es fs first.1 in

@@ -5,7 +5,7 @@ use Rattle.std.specs.List.{AllByRecursion, IsDistinct}
 use Rattle.m2_fabric.specs.declared.socket.SocketId.{SocketId}
 use Rattle.m2_fabric.specs.End.{SeenEnd}
 use Rattle.m2_fabric.specs.Sockets.{is_among, same_socket}
-use Rattle.m2_bytes_fit.proofs.Lists.{cons_same, nil_not}
+use Rattle.m2_bytes_fit.proofs.Lists.{nil_not}
 use Rattle.m2_history.specs.Woven.{BytesNow, EndNow, RowNow, bytes_at, end_of, row_in, row_now, rows_of}
 use Rattle.m2_journal.specs.declared.entry.Entry.{Entry}
 use Rattle.m2_record.specs.RecordNow.{ids_of}
@@ -17,6 +17,7 @@ use Rattle.m2_weave.specs.Table.{bytes_of, got_at, names_of, put_at}
 use Rattle.m2_history.specs.WovenLink.{same_end}
 use Rattle.m2_bytes.proofs.m2_lemmas.Booleans.{from_false_true}
 use Rattle.m2_fabric.proofs.Sockets.{same_equal, same_refl, same_turned}
+use Rattle.m2_bytes.proofs.m2_lemmas.Lists.{cons_same}
 
 -- ---- one of a list
 

@@ -9,7 +9,7 @@ use Rattle.m2_fabric.specs.declared.socket.SocketId.{SocketId}
 use Rattle.m2_fabric.specs.Log.{Log}
 use Rattle.m2_fabric.specs.Sockets.{same_socket}
 use Rattle.m2_bytes_fit.specs.Orders.{HalfEntry, reads, writes, OrderEntry, near_entry, far_entry, near_half, far_half, entries_of, got_by, put_by, near_move, far_move}
-use Rattle.m2_bytes_fit.proofs.Lists.{cons_same, nil_not}
+use Rattle.m2_bytes_fit.proofs.Lists.{nil_not}
 use Rattle.m2_history.specs.HalfStrands.{strand_of}
 use Rattle.m2_journal.specs.declared.entry.Entry.TheVariants as entry
 use Rattle.m2_journal.specs.Items.{JournalItem}
@@ -24,6 +24,7 @@ use Rattle.m2_history.specs.Actors.{Actor, of_record, of_half}
 use Rattle.m2_history.proofs.WovenHalves.{AreOwn, IsOwnItem, strand_own}
 use Rattle.m2_history.specs.Order.{by_half, by_halves, by_record, done_by, entries_from, half_bytes}
 use Rattle.m2_fabric.proofs.Sockets.{same_refl}
+use Rattle.m2_bytes.proofs.m2_lemmas.Lists.{cons_same}
 
 -- ---- what comes of one strand
 

@@ -1,7 +1,7 @@
 -- What the library lacks of lists.
 use Rattle.std.proofs.Common.{List, [], ◌∷◌, ◌++◌, ◌≡◌, refl, true, length, arith, map, Some, ap, ℕ, zero, suc, slice_get, slice_set, take, drop, Bool, false, sym, ◌∙◌, subst, ◌<◌, if◌then◌else◌, reverse}
 use Rattle.std.proofs.lemmas.Bool.{eqb-true}
-use Rattle.std.specs.List.{AllByRecursion, filter}
+use Rattle.std.specs.List.{AllByRecursion, filter, flat_map}
 use Rattle.std.specs.Prelude.{◌==◌, slice_index}
 use Rattle.std.proofs.lemmas.List.{reverse-append}
 use Rattle.m2_lemmas.proofs.Booleans.{from_false_true}
@@ -116,3 +116,10 @@ all_reverse P [] all = tt
 all_reverse P (x ∷ xs) all =
     let e : reverse (x ∷ xs) ≡ reverse xs ++ x ∷ [] = reverse-append (x ∷ []) xs in
     subst (AllByRecursion P) (sym e) (all_last P (reverse xs) x (all_reverse P xs all.1) all.0)
+
+pub cons_same : {X : Type 0} (x y : X) (xs ys : List X) → x ∷ xs ≡ y ∷ ys → (x ≡ y) × (xs ≡ ys)
+cons_same x y xs ys e = (cc e, cc e)
+
+pub flat_map_same : {X Y : Type 0} (f g : X → List Y) → ((x : X) → f x ≡ g x) → (xs : List X) → flat_map f xs ≡ flat_map g xs
+flat_map_same f g same [] = refl
+flat_map_same f g same (x ∷ xs) = ap (λ ys. ys ++ flat_map f xs) (same x) ∙ ap (λ ys. g x ++ ys) (flat_map_same f g same xs)

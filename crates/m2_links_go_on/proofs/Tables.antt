@@ -3,7 +3,7 @@ use Rattle.std.proofs.Common.{◌≡◌, suc, Bool, true, false, ◌||◌, ◌&&
 use Rattle.std.specs.Prelude.{slice_get}
 use Rattle.m2_fabric.specs.declared.socket.SocketId.{SocketId}
 use Rattle.m2_fabric.specs.Sockets.{is_among, same_socket}
-use Rattle.m2_growth.proofs.m2_bytes_fit.Lists.{cons_same, nil_not}
+use Rattle.m2_growth.proofs.m2_bytes_fit.Lists.{nil_not}
 use Rattle.m2_history.proofs.Bytes.{in_row, row_of}
 use Rattle.m2_history.specs.declared.history.WeaveFault.TheVariants as fault
 use Rattle.m2_history.specs.Woven.{BothNow, BytesNow, EndNow, RowNow, bytes_at, ends_of, row_in, row_now, rows_of, strands_of}
@@ -16,6 +16,7 @@ use Rattle.m2_weave.specs.Stops.{IsWoven}
 use Rattle.m2_weave.specs.Strands.{Bytes, EndOf, same_side}
 use Rattle.m2_weave.specs.Table.{bytes_of, got_at, names_of, put_at}
 use Rattle.m2_fabric.proofs.Sockets.{same_equal}
+use Rattle.m2_fabric.proofs.m2_lemmas.Lists.{cons_same}
 
 -- ---- one end in a table
 

@@ -6,14 +6,14 @@ use Rattle.std.specs.List.{AllByRecursion, filter}
 use Rattle.std.proofs.lemmas.Bool.{eqb-true, eq-eqb}
 use Rattle.std.proofs.lemmas.List.{map-append}
 use Rattle.std.proofs.lemmas.List.Elements.{filter-append}
-use Rattle.m2_bytes_fit.proofs.Lists.{cons_is_some, cons_same}
+use Rattle.m2_bytes_fit.proofs.Lists.{cons_is_some}
 use Rattle.m2_channel.specs.Channel.{KeyedMessage, of_key}
 use Rattle.m2_channel.specs.m2_dispatch.Heard.{is_key}
 use Rattle.m2_channel.proofs.Keys.{key_self}
 use Rattle.m2_journal.specs.m2_message.Message.{Content, unnumbered}
 use Rattle.m2_journal.specs.m2_policy.declared.path.Key.{Key}
 use Rattle.m2_journal.proofs.m2_lemmas.Booleans.{from_false_true}
-use Rattle.m2_journal.proofs.m2_lemmas.Lists.{all_append, all_back, all_filter, all_front}
+use Rattle.m2_journal.proofs.m2_lemmas.Lists.{all_append, all_back, all_filter, all_front, cons_same}
 use Rattle.m2_lives.specs.Lives.{one_more, SendingLife, ReceivingLife, LivesChannel, sending_lives, receiving_lives, Has, IsNewName, IsSameAt, MayBeDispatched, LivesStep, dispatch, one_dispatched, changed_in_lives, after_in_lives, LifeMessage, of_life, acceptances_from}
 use Rattle.m2_lives.specs.LivesLaws.{AreNames, ArePiecesOf}
 use Rattle.m2_lives.specs.ObservedRun.{in_life, with_key}

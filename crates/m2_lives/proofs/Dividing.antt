@@ -6,12 +6,12 @@ use Rattle.std.proofs.lemmas.Bool.{eq-eqb}
 use Rattle.std.proofs.lemmas.Grind.{flat_map-append}
 use Rattle.std.proofs.lemmas.List.{map-append}
 use Rattle.std.proofs.lemmas.List.Elements.{filter-append}
-use Rattle.m2_bytes_fit.proofs.Lists.{cons_is_some, cons_same}
+use Rattle.m2_bytes_fit.proofs.Lists.{cons_is_some}
 use Rattle.m2_journal.specs.State as state
 use Rattle.m2_journal.specs.State.{Delivery}
 use Rattle.m2_journal.specs.m2_message.Message.{Content}
 use Rattle.m2_journal.specs.m2_policy.declared.path.Key.{Key}
-use Rattle.m2_journal.proofs.m2_lemmas.Lists.{all_back, all_front}
+use Rattle.m2_journal.proofs.m2_lemmas.Lists.{all_back, all_front, cons_same}
 use Rattle.m2_lives.specs.Lives.{IsNewName, LifeMessage, of_life}
 use Rattle.m2_lives.specs.LivesLaws.{AreNames, ArePiecesOf}
 use Rattle.m2_lives.specs.Observed.{into_first, stretches}

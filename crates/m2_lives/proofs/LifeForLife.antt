@@ -3,7 +3,6 @@
 use Rattle.std.proofs.Common.{◌≡◌, ℕ, ◌⊎◌, inl, inr, Bool, true, false, not, ◌&&◌, if◌then◌else◌, List, [], ◌∷◌, ◌++◌, map, Option, Some, None, refl, sym, ap, subst, ◌∙◌, append-nil, append_assoc}
 use Rattle.std.proofs.lemmas.List.{map-append}
 use Rattle.std.proofs.lemmas.List.Elements.{filter-append}
-use Rattle.m2_bytes_fit.proofs.Lists.{cons_same}
 use Rattle.m2_channel.specs.Observed.{all_of, brought_on}
 use Rattle.m2_channel.specs.m2_dispatch.Heard.{is_key}
 use Rattle.m2_journal.specs.Items as item
@@ -40,6 +39,7 @@ use Rattle.m2_lives.proofs.Bringing.{handed-append}
 use Rattle.m2_lives.proofs.Delivered.{one}
 use Rattle.m2_lives.proofs.Dividing.{cuts, joined}
 use Rattle.m2_lives.proofs.Turns.{DoesAsTold, IsPlain, MovesMessages, Told, letters_by, moves_hand, moves_or_told, thrown_by}
+use Rattle.m2_journal.proofs.m2_lemmas.Lists.{cons_same}
 
 -- ---- a session that has lost its cookie
 

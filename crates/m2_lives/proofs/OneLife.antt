@@ -2,7 +2,7 @@
 use Rattle.std.proofs.Common.{◌≡◌, ◌≢◌, ℕ, true, false, if◌then◌else◌, List, [], ◌∷◌, ◌++◌, map, Option, Some, None, refl, sym, ap, subst, ◌∙◌, append-nil}
 use Rattle.std.specs.List.{AllByRecursion}
 use Rattle.std.proofs.lemmas.Bool.{eq-eqb}
-use Rattle.m2_bytes_fit.proofs.Lists.{cons_is_some, cons_same}
+use Rattle.m2_bytes_fit.proofs.Lists.{cons_is_some}
 use Rattle.m2_channel.specs.Channel.{KeyedMessage, of_key, keyed}
 use Rattle.m2_channel.specs.Observed.{Logs, IsLetter, all_of, handed}
 use Rattle.m2_channel.specs.ObservedLaws.{AMessageIsObserved}
@@ -36,6 +36,7 @@ use Rattle.m2_lives.specs.OneLife.{AMessageIsHeardInALife}
 use Rattle.m2_lives.proofs.Delivered.{not_same}
 use Rattle.m2_lives.proofs.Down.{LeavesFeed, down_leaves}
 use Rattle.m2_lives.proofs.Handing.{no_pieces}
+use Rattle.m2_journal.proofs.m2_lemmas.Lists.{cons_same}
 
 -- ---- a mark-down behind a history
 

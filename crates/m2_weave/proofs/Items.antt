@@ -9,6 +9,7 @@ use Rattle.m2_journal.specs.declared.entry.Entry.{Entry}
 use Rattle.m2_weave.specs.declared.strand.StrandItem.{StrandItem}
 use Rattle.m2_weave.specs.declared.strand.StrandItem.TheVariants.{Noted, Handed}
 use Rattle.m2_weave.specs.Strands.{half_items, opens}
+use Rattle.m2_bytes.proofs.m2_lemmas.Lists.{cons_same}
 
 -- ---- how many a half has
 
@@ -97,12 +98,9 @@ none_left es place h = ap length (drop_all place es h)
 -- ---- items that are still to come
 
 -- the next of them is the one at the place at which they begin
-same-first : {X : Type 0} (x y : X) (xs ys : List X) → x ∷ xs ≡ y ∷ ys → (x ≡ y) × (xs ≡ ys)
-same-first x y xs ys e = (cc, cc)
-
 pub next_at : (is left rest : List StrandItem) (n : ℕ) (i : StrandItem) → n < length is → left ≡ drop n is → left ≡ i ∷ rest →
     (i ≡ slice_index_or is n i) × (rest ≡ drop (n + 1) is)
-next_at is left rest n i h at next = same-first i (slice_index_or is n i) rest (drop (n + 1) is) (sym next ∙ at ∙ drop_more is n i h)
+next_at is left rest n i h at next = cons_same i (slice_index_or is n i) rest (drop (n + 1) is) (sym next ∙ at ∙ drop_more is n i h)
 
 get-first : (n : ℕ) (is : List StrandItem) → slice_get (drop n is) 0 ≡ slice_get is n
 get-first zero is = refl

@@ -1,0 +1,30 @@
+//! The types of peers.
+
+ghost use Rattle.std.specs.Prelude.{◌≡◌};
+ghost use Rattle.m2_shared.specs.Gates.{type_of};
+
+/// The types of Ceph's entities, for each of which a node may have throttles.
+#[derive(Clone, Copy, Debug, Drop, PartialEq, Eq)]
+pub enum PeerType {
+    Mon,
+    Mds,
+    Osd,
+    Client,
+    Mgr,
+}
+
+impl PeerType {
+    /// The type that an entity's number means. None where it means none.
+    pub fn of(entity: u8) -> Option<PeerType>
+        ensures { result ≡ type_of entity }
+    {
+        match entity {
+            1 => Some(PeerType::Mon),
+            2 => Some(PeerType::Mds),
+            4 => Some(PeerType::Osd),
+            8 => Some(PeerType::Client),
+            16 => Some(PeerType::Mgr),
+            _ => None,
+        }
+    }
+}
