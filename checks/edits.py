@@ -1,9 +1,11 @@
 #!/usr/bin/env python3
 """Tries edits that the check must refuse: of each crate named (of all, where none is) those of checks/edits/CRATE, which
-rt ci doesn't read, and those of crates/CRATE/must-fail, which it tries itself. An edit is refused where a function
-is without a proof then. The functions of the files that it changes, and those that they call, are checked first, over the
-libraries that rt ci or rt lib has built here, and the whole crate only where these are all proved. Before the edits of a
-crate, the functions of all files that they change are checked as they are, and all have to be proved.
+rt ci doesn't read, and those of crates/CRATE/must-fail, which it tries itself. An edit is refused where a function is
+without a proof then. Edits of a crate that change different functions are tried in one check, over the libraries that rt ci
+or rt lib has built here: each such function has to be without a proof for its own sake, and not for that of one that it calls.
+What isn't refused so is tried by itself: the functions of the files that it changes, and those that they call, and the
+whole crate where these are all proved. Before the edits of a crate, the functions of all files that they change are
+checked as they are, and all have to be proved.
 
     checks/edits.py [CRATE..]       all edits of these crates
     checks/edits.py --gate          those that the list checks/edits/gate names, without the check before them, for rt ci
@@ -111,20 +113,48 @@ def applied(room, edit):
     return changed, None
 
 
+def function(text, at):
+    """The function of a file that holds this place of its text, by its path below the module; nothing where none does."""
+    names = [it[1] for it in re.finditer(r'^ *(?:pub(?:\([a-z]+\))? )?(?:ghost )?(?:const )?fn (\w+)', text[:at], re.M)]
+    blocks = list(re.finditer(r'^(?:impl\b(?:<.*?>)? (?:(?P<trait>\w+)(?:<.*?>)? for )?(?P<type>\w+)|\})', text[:at], re.M))
+    if not names:
+        return None
+    if not blocks or blocks[-1]['type'] is None:
+        return names[-1]
+    return f"{blocks[-1]['type']}{blocks[-1]['trait'] or ''}::{names[-1]}"
+
+
+def functions(room, crate, edit):
+    """The functions whose bodies an edit changes, by their paths."""
+    found = set()
+    for path, old, _ in pairs(edit):
+        text = (room / path).read_text()
+        name = function(text, text.index(old))
+        if name is None:
+            return None
+        found.add('::'.join(it for it in (module(path), name) if it))
+    return found
+
+
+def written(room, texts):
+    """Writes these texts of files, and gives back those that stood there."""
+    was = {path: (room / path).read_text() for path in texts}
+    for path, text in texts.items():
+        (room / path).write_text(text)
+    return was
+
+
 def try_edit(room, crate, edit, uses):
-    """Whether the check refuses the edit, and what to say."""
+    """Whether the check refuses the edit by itself, and what to say."""
     label = f'{crate}/{edit.name}'
     changed, bad = applied(room, edit)
     if bad:
         return False, f'{label}: {bad}'
-    was = {path: (room / path).read_text() for path in changed}
-    for path, text in changed.items():
-        (room / path).write_text(text)
+    was = written(room, changed)
     proved, said = check_modules(room, crate, uses, map(module, changed))
     if proved:
         proved, said = check(room, crate, uses, [])
-    for path, text in was.items():
-        (room / path).write_text(text)
+    written(room, was)
     if proved:
         return False, f'{label}: NOT REFUSED: the crate is still proved'
     left = re.findall(r'^fn (\S+): (?:not proved|no proof)', said, re.M)
@@ -133,22 +163,63 @@ def try_edit(room, crate, edit, uses):
     return True, f'{label}: refused: {", ".join(left[:3])}'
 
 
+def try_together(room, crate, edits, uses):
+    """Tries edits of a crate that change different functions, all in one check: of each that is refused what to say, those of
+    which nothing is known since their functions call others that are edited, and those that are to be tried by themselves. An
+    edit is refused here only where the function that it changes is without a proof for its own sake."""
+    was, changes, chosen, alone, later = {}, {}, {}, [], []
+    for edit in edits:
+        changed, bad = applied(room, edit)
+        names = None if bad else functions(room, crate, edit)
+        if names is None and not (changed is None and changes):
+            alone.append(edit)
+        elif names is None or names & set().union(*chosen.values()):
+            later.append(edit)
+        else:
+            chosen[edit] = names
+            for path, text in written(room, changed).items():
+                was.setdefault(path, text)
+            changes |= changed
+    if not chosen:
+        return [], later, alone
+    proved, said = check(room, crate, uses, set().union(*chosen.values()))
+    written(room, was)
+    if proved is None:
+        return [], later, alone + list(chosen)
+    refused = []
+    for edit, names in chosen.items():
+        reasons = {it[1]: it[2] for it in re.finditer(r'^fn (\S+): (?:not proved|no proof)(.*)', said, re.M)}
+        own = [name for name in names if not reasons.get(f'{crate}::{name}', ': it calls').startswith(': it calls')]
+        if own:
+            refused.append((True, f'{crate}/{edit.name}: refused: {", ".join(own)}'))
+        elif len(chosen) > 1 and any(f'{crate}::{name}' in reasons for name in names):
+            later.append(edit)
+        else:
+            alone.append(edit)
+    return refused, later, alone
+
+
 def try_edits(crate, edits, uses, first):
-    """Tries these edits of a crate, one after the other; `first` says whether the files are checked as they are before."""
+    """Tries these edits of a crate; `first` says whether the files are checked as they are before."""
     with tempfile.TemporaryDirectory() as room:
         room = pathlib.Path(room)
         for part in 'src', 'specs', 'proofs':
             if (TOP / 'crates' / crate / part).is_dir():
                 shutil.copytree(TOP / 'crates' / crate / part, room / part)
+        (room / 'kept').mkdir()
         if first:
-            (room / 'kept').mkdir()
             proved, said = check_modules(room, crate, uses, {module(path) for edit in edits for path, _, _ in pairs(edit)})
             if not proved:
                 return [(False, f'{crate}: not all is proved as it is, so no edit was tried: {said}')]
-        tried = []
-        for edit in edits:
-            tried.append(try_edit(room, crate, edit, uses))
-            print(tried[-1][1], flush=True)
+        tried, left = [], edits
+        while left:
+            refused, left, alone = try_together(room, crate, left, uses)
+            tried += refused
+            for _, said in refused:
+                print(said, flush=True)
+            for edit in alone:
+                tried.append(try_edit(room, crate, edit, uses))
+                print(tried[-1][1], flush=True)
         return tried
 
 
