@@ -6,13 +6,13 @@ use Rattle.std.specs.List.{AllByRecursion}
 use Rattle.std.proofs.lemmas.Bool.{eqb-true}
 use Rattle.std.proofs.lemmas.Option.{get_or_from_slice_get, same_Some, slice_get_within}
 use Rattle.m2_addr.specs.declared.addr.Addr.{Addr}
-use Rattle.m2_bytes.proofs.m2_lemmas.Lists.{all_so_of}
+use Rattle.m2_bytes.proofs.m2_lemmas.Lists.{all_so_of, cons_same}
 use Rattle.m2_node.specs.m2_script.m2_center.Center.{CenterNow}
 use Rattle.m2_node.specs.m2_script.m2_center.Home.{home_of}
 use Rattle.m2_node.specs.m2_links_go_on.Made.{NodeMade, SideMade, node_made, side_made}
 use Rattle.m2_dispatch.specs.declared.logged.Logged.{Logged}
 use Rattle.m2_node.proofs.m2_links_go_on.m2_growth.Among.{each_by, of_each}
-use Rattle.m2_node.proofs.m2_links_go_on.m2_growth.m2_bytes_fit.Lists.{cons_same, not_nil}
+use Rattle.m2_node.proofs.m2_links_go_on.m2_growth.m2_bytes_fit.Lists.{not_nil}
 use Rattle.m2_node.specs.m2_links_go_on.m2_growth.Halves.{IsOneOf}
 use Rattle.m2_node.specs.m2_links_go_on.m2_growth.m2_bytes_fit.Halves.{KeepsRanges}
 use Rattle.m2_journal.specs.SideFacts.{SideFacts}
