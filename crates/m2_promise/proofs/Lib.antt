@@ -56,3 +56,4 @@ pub mod Turns
 pub mod Ways
 pub mod Whole
 pub use Rattle.m2_links_go_on.proofs as m2_links_go_on
+pub use Rattle.m2_script.proofs as m2_script

@@ -17,3 +17,4 @@ pub mod RunLaws
 pub mod Running
 pub mod StartLaws
 pub mod Started
+pub use Rattle.m2_script.specs as m2_script

@@ -51,6 +51,9 @@ pub use delivery_laws::{
     runs_have_links,
 };
 pub use keeping_laws::{deeds_stay_kept, kept_can_be_done, scripts_can_be_done, scripts_stay_kept};
+pub use m2_script::{
+    Center, Cluster, MemoryCluster, MemoryNode, Record, Run, addresses, clear_all, cluster_of,
+};
 pub use passing_laws::{
     fault_keeps_running, flow_keeps_running, hearing_keeps_orders, hearing_stays_at,
     meeting_keeps_running, nothing_is_heard, rest_stays, told_nodes_hear,

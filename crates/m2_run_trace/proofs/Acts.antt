@@ -1,11 +1,11 @@
 -- Acts of one list and then of another are those of both; and what is known in the midst of a list.
 use Rattle.std.proofs.Common.{◌≡◌, ℕ, List, [], ◌∷◌, ◌++◌, Some, Ok, Err, OnOk, refl, sym, ap, ◌∙◌, subst, append_assoc, append-nil}
 use Rattle.std.proofs.lemmas.Grind.{flat_map-append}
-use Rattle.m2_script.specs.m2_cluster.m2_center.CenterTurn.{Answer}
+use Rattle.m2_promise.specs.m2_script.m2_cluster.m2_center.CenterTurn.{Answer}
 use Rattle.m2_run_trace.specs.Acts.{Act, CanDo, CanPlay, Does, MemoryRun, Plays, PlaysAll, StageNow, deeds_in, news_by, silent_act}
 use Rattle.m2_run_trace.proofs.Deeds.{can_behind, can_first, does_both}
 use Rattle.m2_scenario.specs.declared.node.Node.{Node}
-use Rattle.m2_script.specs.Script.{Deed}
+use Rattle.m2_promise.specs.m2_script.Script.{Deed}
 use Rattle.m2_scenario.specs.Text.{Word}
 
 pub both_deeds : (xs ys : List Act) → deeds_in (xs ++ ys) ≡ deeds_in xs ++ deeds_in ys

@@ -1,10 +1,10 @@
 -- What is known in the midst of deeds that are done one after another.
 use Rattle.std.proofs.Common.{◌≡◌, List, [], ◌++◌, Ok, Err, OnOk, refl, sym, ap, ◌∙◌, subst, append_assoc, append-nil}
-use Rattle.m2_script.specs.m2_cluster.m2_center.CenterTurn.{Answer}
+use Rattle.m2_promise.specs.m2_script.m2_cluster.m2_center.CenterTurn.{Answer}
 use Rattle.m2_dispatch.specs.Heard.{heard_by}
 use Rattle.m2_run_trace.specs.Acts.{CanDo, Does, MemoryRun}
-use Rattle.m2_script.specs.Script.{Deed, Ends}
-use Rattle.m2_script.proofs.Deeds as deeds
+use Rattle.m2_promise.specs.m2_script.Script.{Deed, Ends}
+use Rattle.m2_promise.proofs.m2_script.Deeds as deeds
 use Rattle.m2_fabric.specs.declared.cut_end.CutEnd.{CutEnd}
 use Rattle.m2_fabric.specs.declared.sim_end.SimEnd.{SimEnd}
 

@@ -7,7 +7,7 @@ use Rattle.m2_scenario.specs.declared.line.Line.{Line}
 use Rattle.m2_scenario.specs.declared.line.Line.TheVariants as line
 use Rattle.m2_scenario.specs.declared.link.Link.{Link}
 use Rattle.m2_scenario.specs.declared.node.Node.{Node}
-use Rattle.m2_script.specs.Script.{Deed, both_flow, deeds_of, round_of, rounds_of, script_of, turns_from}
+use Rattle.m2_promise.specs.m2_script.Script.{Deed, both_flow, deeds_of, round_of, rounds_of, script_of, turns_from}
 use Rattle.m2_scenario.specs.Text.{Word}
 use Rattle.m2_run_trace.proofs.Acts.{both_deeds}
 

@@ -7,7 +7,7 @@ use Rattle.m2_dispatch.specs.declared.logged.Logged.{Logged}
 use Rattle.m2_fabric.specs.declared.socket.SocketId.{SocketId}
 use Rattle.m2_fabric.specs.Log.{Log}
 use Rattle.m2_journal.specs.declared.entry.Entry.{Entry}
-use Rattle.m2_script.specs.m2_record.RecordNow.{RecordNow}
+use Rattle.m2_promise.specs.m2_script.m2_record.RecordNow.{RecordNow}
 use Rattle.m2_trace.specs.Words.{Text}
 use Rattle.m2_run_trace.specs.declared.news.Judgement.{Judgement}
 use Rattle.m2_run_trace.specs.Dials.{MarkedNow}

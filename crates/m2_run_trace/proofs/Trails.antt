@@ -4,8 +4,8 @@ use Rattle.std.specs.List.{flat_map}
 use Rattle.std.specs.Prelude.{Option}
 use Rattle.m2_fabric.specs.declared.socket.SocketId.{SocketId}
 use Rattle.m2_fabric.specs.Sockets.{same_socket}
-use Rattle.m2_script.specs.m2_record.RecordNow.{RecordNow}
-use Rattle.m2_script.specs.m2_record.Sources.{trail_at}
+use Rattle.m2_promise.specs.m2_script.m2_record.RecordNow.{RecordNow}
+use Rattle.m2_promise.specs.m2_script.m2_record.Sources.{trail_at}
 use Rattle.m2_run_trace.specs.Sockets.{trail_in}
 use Rattle.m2_trail.specs.Trails.{TrailNow}
 

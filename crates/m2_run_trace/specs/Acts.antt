@@ -14,7 +14,7 @@ use Rattle.m2_scenario.specs.declared.line.Line.{Line}
 use Rattle.m2_scenario.specs.declared.line.Line.TheVariants as line
 use Rattle.m2_scenario.specs.declared.link.Link.{Link}
 use Rattle.m2_scenario.specs.declared.node.Node.{Node}
-use Rattle.m2_script.specs.Script.{CanAllBeDone, Deed, Ends, RunNow, both_flow, deeds_of, turn_and_meet}
+use Rattle.m2_promise.specs.m2_script.Script.{CanAllBeDone, Deed, Ends, RunNow, both_flow, deeds_of, turn_and_meet}
 use Rattle.m2_fabric.specs.declared.cut_end.CutEnd.{CutEnd}
 use Rattle.m2_fabric.specs.declared.sim_end.SimEnd.{SimEnd}
 use Rattle.m2_scenario.specs.Text.{Word}

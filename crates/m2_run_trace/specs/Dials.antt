@@ -1,8 +1,8 @@
 -- Why connects were due, as words. This project's own.
 use Rattle.std.specs.Prelude.{ℕ, List, [], drop, length, take, Option, Some, None}
 use Rattle.m2_journal.specs.declared.entry.Entry.{Entry}
-use Rattle.m2_script.specs.m2_record.m2_core.LiveNow.{is_waiting}
-use Rattle.m2_script.specs.m2_record.RecordNow.{RecordNow}
+use Rattle.m2_promise.specs.m2_script.m2_record.m2_core.LiveNow.{is_waiting}
+use Rattle.m2_promise.specs.m2_script.m2_record.RecordNow.{RecordNow}
 use Rattle.m2_run_trace.specs.declared.dials.DialMark.{DialMark}
 use Rattle.m2_trace.specs.Dials.{cause_behind, cause_of, cause_word}
 use Rattle.m2_trace.specs.Words.{Text}

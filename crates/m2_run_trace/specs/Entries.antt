@@ -9,7 +9,7 @@ use Rattle.m2_journal.specs.declared.entry.Entry.{Entry}
 use Rattle.m2_journal.specs.declared.entry.Entry.TheVariants as entry
 use Rattle.m2_journal.specs.Items.{runs_on}
 use Rattle.m2_policy.specs.declared.path.Path.TheVariants.{Fast}
-use Rattle.m2_script.specs.m2_record.RecordNow.{RecordNow}
+use Rattle.m2_promise.specs.m2_script.m2_record.RecordNow.{RecordNow}
 use Rattle.m2_scenario.specs.declared.node.Node.{Node}
 use Rattle.m2_session.specs.declared.answer.Answer.{Answer}
 use Rattle.m2_trace.specs.Entries.{answer_words, ask_words, entry_words}

@@ -1,8 +1,8 @@
 -- What is promised of traces.
 use Rattle.std.specs.Prelude.{◌≡◌, List}
 use Rattle.m2_journal.specs.Replay.{replay}
-use Rattle.m2_script.specs.m2_record.IsRecord.{IsRecord}
-use Rattle.m2_script.specs.m2_record.RecordNow.{RecordNow, speaks_of}
+use Rattle.m2_promise.specs.m2_script.m2_record.IsRecord.{IsRecord}
+use Rattle.m2_promise.specs.m2_script.m2_record.RecordNow.{RecordNow, speaks_of}
 use Rattle.m2_run_trace.specs.Dials.{dial_mark_of}
 use Rattle.m2_run_trace.specs.Tracing.{IsTrace}
 use Rattle.m2_scenario.specs.declared.line.Line.{Line}

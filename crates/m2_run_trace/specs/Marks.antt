@@ -2,7 +2,7 @@
 use Rattle.std.specs.Prelude.{ℕ, true, false, List, [], length, map, Option, Some, None}
 use Rattle.m2_fabric.specs.declared.socket.SocketId.{SocketId}
 use Rattle.m2_fabric.specs.Log.{Log}
-use Rattle.m2_script.specs.m2_record.RecordNow.{RecordNow}
+use Rattle.m2_promise.specs.m2_script.m2_record.RecordNow.{RecordNow}
 use Rattle.m2_run_trace.specs.declared.dials.DialMark.{DialMark}
 use Rattle.m2_run_trace.specs.declared.marks.EndMark.{EndMark}
 use Rattle.m2_run_trace.specs.declared.standing.SessionMark.{SessionMark}

@@ -8,7 +8,7 @@ use Rattle.m2_fabric.specs.Log.{Log}
 use Rattle.m2_fabric.specs.Sockets.{same_socket}
 use Rattle.m2_journal.specs.declared.entry.Entry.{Entry}
 use Rattle.m2_journal.specs.declared.entry.Entry.TheVariants as entry
-use Rattle.m2_script.specs.m2_record.RecordNow.{RecordNow}
+use Rattle.m2_promise.specs.m2_script.m2_record.RecordNow.{RecordNow}
 use Rattle.m2_run_trace.specs.declared.dials.DialMark.{DialMark}
 use Rattle.m2_run_trace.specs.declared.marks.EndMark.{EndMark}
 use Rattle.m2_run_trace.specs.declared.news.Judgement.{Judgement}

@@ -2,10 +2,10 @@
 use Rattle.std.specs.Prelude.{Bool, true, false, if◌then◌else◌, List, [], ◌∷◌, ◌++◌, codes, Option, Some, None}
 use Rattle.std.specs.List.{flat_map}
 use Rattle.std.specs.Str.{bytes_eq}
-use Rattle.m2_script.specs.m2_cluster.Node.{NodeNow}
+use Rattle.m2_promise.specs.m2_script.m2_cluster.Node.{NodeNow}
 use Rattle.m2_dispatch.specs.declared.logged.Logged.{Logged}
 use Rattle.m2_journal.specs.declared.facts.NodeFacts.{NodeFacts}
-use Rattle.m2_script.specs.m2_record.RecordNow.{RecordNow}
+use Rattle.m2_promise.specs.m2_script.m2_record.RecordNow.{RecordNow}
 use Rattle.m2_run_trace.specs.declared.script.Sort.{Sort}
 use Rattle.m2_run_trace.specs.declared.script.Sort.TheVariants as sort
 use Rattle.m2_scenario.specs.declared.node.Node.{Node}

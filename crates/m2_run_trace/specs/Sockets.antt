@@ -5,8 +5,8 @@ use Rattle.std.specs.Option.{is_some}
 use Rattle.m2_fabric.specs.declared.socket.SocketId.{SocketId}
 use Rattle.m2_fabric.specs.Log.{Log}
 use Rattle.m2_fabric.specs.Sockets.{goes_to}
-use Rattle.m2_script.specs.m2_record.RecordNow.{RecordNow}
-use Rattle.m2_script.specs.m2_record.Sources.{trail_at}
+use Rattle.m2_promise.specs.m2_script.m2_record.RecordNow.{RecordNow}
+use Rattle.m2_promise.specs.m2_script.m2_record.Sources.{trail_at}
 use Rattle.m2_run_trace.specs.declared.marks.EndMark.{EndMark}
 use Rattle.m2_run_trace.specs.Marks.{MarksNow}
 use Rattle.m2_run_trace.specs.Telling.{Telling, log_in}

@@ -1,8 +1,8 @@
 -- Where the records of a node stand, as lines. This project's own.
 use Rattle.std.specs.Prelude.{ℕ, zero, suc, ◌+◌, ◌==◌, ◌&&◌, Bool, true, false, not, if◌then◌else◌, List, [], ◌++◌, codes, length, slice_get, Option, Some}
 use Rattle.m2_dispatch.specs.m2_queues.OutQueues.{last_number}
-use Rattle.m2_script.specs.m2_record.m2_core.LiveNow.{held}
-use Rattle.m2_script.specs.m2_record.RecordNow.{RecordNow}
+use Rattle.m2_promise.specs.m2_script.m2_record.m2_core.LiveNow.{held}
+use Rattle.m2_promise.specs.m2_script.m2_record.RecordNow.{RecordNow}
 use Rattle.m2_run_trace.specs.declared.standing.Counts.{Counts}
 use Rattle.m2_run_trace.specs.declared.standing.SessionMark.{SessionMark}
 use Rattle.m2_run_trace.specs.Telling.{Telling}

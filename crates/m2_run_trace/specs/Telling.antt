@@ -2,15 +2,15 @@
 use Rattle.std.specs.Prelude.{ℕ, List, Option, Some, None, slice_get}
 use Rattle.std.specs.Option.{option_map}
 use denote.Ref.{Bor}
-use Rattle.m2_script.specs.m2_cluster.m2_center.Center.{CenterNow}
-use Rattle.m2_script.specs.m2_cluster.m2_center.Reaching.{ends_in}
-use Rattle.m2_script.specs.m2_cluster.Node.{NodeNow}
+use Rattle.m2_promise.specs.m2_script.m2_cluster.m2_center.Center.{CenterNow}
+use Rattle.m2_promise.specs.m2_script.m2_cluster.m2_center.Reaching.{ends_in}
+use Rattle.m2_promise.specs.m2_script.m2_cluster.Node.{NodeNow}
 use Rattle.m2_dispatch.specs.declared.logged.Logged.{Logged}
 use Rattle.m2_fabric.specs.declared.log.EndLog.{EndLog}
 use Rattle.m2_fabric.specs.declared.socket.SocketId.{SocketId}
 use Rattle.m2_fabric.specs.End.{SeenEnd}
 use Rattle.m2_fabric.specs.Log.{Log, log_of}
-use Rattle.m2_script.specs.m2_record.Sources.{end_at}
+use Rattle.m2_promise.specs.m2_script.m2_record.Sources.{end_at}
 use Rattle.m2_scenario.specs.declared.node.Node.{Node}
 
 -- the center of a node in memory, whose dispatchers keep logs

@@ -1,7 +1,7 @@
 //! Where a node stood before it did something.
 
 ghost use Rattle.std.specs.Prelude.{◌≡◌, IfOk, length, map};
-ghost use Rattle.m2_script.specs.m2_record.RecordNow.{RecordNow};
+ghost use Rattle.m2_promise.specs.m2_script.m2_record.RecordNow.{RecordNow};
 ghost use Rattle.m2_run_trace.specs.Dials.{dial_mark_of};
 ghost use Rattle.m2_run_trace.specs.Marks.{end_mark, marks_in, marks_of};
 ghost use Rattle.m2_run_trace.specs.Standing.{standing_of};

@@ -4,8 +4,8 @@ ghost use Rattle.std.specs.Prelude.{◌≡◌, ◌∷◌, ◌<◌, [], IfOk, OnO
 ghost use Rattle.std.specs.List.{flat_map};
 ghost use Rattle.m2_run_trace.specs.Acts.{CanDo, CanPlay, Does, Plays, PlaysAll, actor_of, acts_of, acts_to, line_acts, quiet_act, round_acts, rounds_acts, silent_act, step_act, turn_act, turn_acts};
 ghost use Rattle.m2_run_trace.specs.Script.{lines_above, lines_behind, next_step};
-ghost use Rattle.m2_script.specs.Script.{MOST, both_flow, deeds_of, turn_and_meet};
-ghost use Rattle.m2_script.specs.Script as deed;
+ghost use Rattle.m2_promise.specs.m2_script.Script.{MOST, both_flow, deeds_of, turn_and_meet};
+ghost use Rattle.m2_promise.specs.m2_script.Script as deed;
 ghost use Rattle.m2_scenario.specs.Text.{pieces};
 
 use crate::script::{put_step, put_until_step};

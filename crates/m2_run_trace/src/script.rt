@@ -9,8 +9,8 @@ ghost use Rattle.m2_scenario.specs.Text.{pieces};
 
 use m2_bytes::{Blob, NoMemory};
 use m2_journal::NodeFacts;
+use m2_promise::{MemoryCluster, MemoryNode};
 use m2_scenario::{Node, Words, cut, words_in};
-use m2_script::{MemoryCluster, MemoryNode};
 use m2_trace::put_node;
 
 /// What a line of the text is.

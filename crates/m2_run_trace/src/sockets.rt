@@ -3,8 +3,8 @@
 ghost use Rattle.std.specs.Prelude.{◌≡◌, ◌∷◌, ◌++◌, [], IfOk, OnOk, drop, filter, map, not};
 ghost use Rattle.std.specs.List.{flat_map};
 ghost use Rattle.std.specs.Option.{option_map};
-ghost use Rattle.m2_script.specs.m2_record.RecordNow.{RecordNow};
-ghost use Rattle.m2_script.specs.m2_record.Sources.{trail_at};
+ghost use Rattle.m2_promise.specs.m2_script.m2_record.RecordNow.{RecordNow};
+ghost use Rattle.m2_promise.specs.m2_script.m2_record.Sources.{trail_at};
 ghost use Rattle.m2_run_trace.specs.declared.marks.EndMark.{EndMark};
 ghost use Rattle.m2_run_trace.specs.Sockets.{comes_to, is_over, left_of, sockets_left, trail_in};
 ghost use Rattle.m2_run_trace.specs.Telling.{telling_at};
@@ -15,8 +15,8 @@ use crate::marks::{EndMark, Marks};
 use crate::telling::{Teller, TracedCluster};
 use m2_bytes::{Items, NoMemory};
 use m2_fabric::{End, SocketId, SocketIdList};
+use m2_promise::Record;
 use m2_scenario::Node;
-use m2_script::Record;
 use m2_trail::Trail;
 use std::alloc::Global;
 

@@ -5,8 +5,8 @@ ghost use Rattle.m2_run_trace.specs.Acts.{first_stage};
 
 use m2_bytes::{Blob, Items};
 use m2_fabric::{CutPort, SimPort, SocketIdList};
+use m2_promise::Run;
 use m2_scenario::{Link, Node};
-use m2_script::Run;
 use std::alloc::Global;
 use std::marker::Model;
 

@@ -6,8 +6,8 @@ ghost use Rattle.m2_run_trace.specs.Telling.{log_in, seen_log, telling_at};
 use crate::lists::at;
 use m2_dispatch::{LogDispatcher, Logged};
 use m2_fabric::{CutEnd, CutPort, EndLog, SimEnd, SimPort, SocketId};
+use m2_promise::{Center, Cluster, Record};
 use m2_scenario::Node;
-use m2_script::{Center, Cluster, Record};
 use std::marker::Model;
 
 /// Nodes in memory.

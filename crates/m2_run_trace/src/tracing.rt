@@ -12,10 +12,9 @@ use crate::playing::play_all;
 use crate::stage::{MemoryRun, Scene, Stage};
 use m2_bytes::{Blob, NoMemory};
 use m2_fabric::{CutPort, SimFabric, SimPort};
-use m2_promise::first_can_be_done;
+use m2_promise::{Run, addresses, clear_all, cluster_of, first_can_be_done};
 use m2_scenario::{Line, LineList, Link, Node, Scenario};
 use m2_scenario_text::{BadScenario, Flaw, read};
-use m2_script::{Run, addresses, clear_all, cluster_of};
 use std::alloc::Global;
 
 /// Why a text has no trace.

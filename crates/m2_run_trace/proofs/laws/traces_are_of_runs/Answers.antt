@@ -4,7 +4,7 @@ use Rattle.m2_run_trace.specs.Acts.{Does, acts_of, first_stage}
 use Rattle.m2_run_trace.proofs.Acts.{plays_does}
 use Rattle.m2_run_trace.proofs.LineActs.{deeds_of_script}
 use Rattle.m2_run_trace.proofs.laws.traces_are_of_runs.Goals as goal
-use Rattle.m2_script.specs.Script.{Deed}
+use Rattle.m2_promise.specs.m2_script.Script.{Deed}
 use Rattle.m2_scenario.specs.Text.{pieces}
 
 pub returns : goal.returns

@@ -3,8 +3,8 @@ use Rattle.std.proofs.Common.{◌+◌, drop, get_or, ap}
 use Rattle.std.specs.List.{flat_map}
 use Rattle.m2_run_trace.proofs.Deeds.{can_next, some_first, some_last, some_next}
 use Rattle.m2_run_trace.proofs.playing.flow_all.Goals as goal
-use Rattle.m2_script.specs.Script.{both_flow}
-use Rattle.m2_script.proofs.Splits.{next_flows, no_link, none_past}
+use Rattle.m2_promise.specs.m2_script.Script.{both_flow}
+use Rattle.m2_promise.proofs.m2_script.Splits.{next_flows, no_link, none_past}
 
 pub links-init : goal.links-init
 links-init c = some_first (flat_map both_flow c.args.scene.now.links.now) c.args.run.now c.requires

@@ -2,8 +2,8 @@
 use Rattle.std.proofs.Common.{[], ◌∷◌}
 use Rattle.m2_run_trace.proofs.Deeds.{can_behind, can_first, does_then}
 use Rattle.m2_run_trace.proofs.playing.flow_over.Goals as goal
-use Rattle.m2_script.specs.Script.{MOST}
-use Rattle.m2_script.specs.Script as deed
+use Rattle.m2_promise.specs.m2_script.Script.{MOST}
+use Rattle.m2_promise.specs.m2_script.Script as deed
 
 pub flow-requires : goal.flow-requires
 flow-requires c =

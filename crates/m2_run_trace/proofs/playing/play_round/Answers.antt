@@ -5,7 +5,7 @@ use Rattle.m2_run_trace.specs.Acts.{CanPlay, PlaysAll, StageNow, deeds_in, flow_
 use Rattle.m2_run_trace.proofs.Acts.{plays_then}
 use Rattle.m2_run_trace.proofs.Deeds.{can_behind, can_first}
 use Rattle.m2_run_trace.proofs.playing.play_round.Goals as goal
-use Rattle.m2_script.specs.Script.{both_flow}
+use Rattle.m2_promise.specs.m2_script.Script.{both_flow}
 
 pub flow_all-requires : goal.flow_all-requires
 flow_all-requires c =

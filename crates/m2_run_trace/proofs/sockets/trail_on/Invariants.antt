@@ -1,6 +1,6 @@
 -- None of those so far is of the socket.
 use Rattle.std.proofs.Common.{◌≡◌, drop, map}
-use Rattle.m2_script.specs.m2_record.Sources.{trail_at}
+use Rattle.m2_promise.specs.m2_script.m2_record.Sources.{trail_at}
 use Rattle.m2_trail.specs.Trails.{trail_now}
 use Rattle.m2_run_trace.proofs.sockets.trail_on.Given as goal
 

@@ -1,7 +1,7 @@
 -- The nodes listen apart.
 use Rattle.std.proofs.Common.{List, sym, subst}
 use Rattle.m2_policy.specs.m2_addr.declared.addr.Addr.{Addr}
-use Rattle.m2_script.proofs.Apart.{addresses_apart}
+use Rattle.m2_promise.proofs.m2_script.Apart.{addresses_apart}
 use Rattle.m2_fabric.specs.SimFabric as net
 use Rattle.m2_run_trace.proofs.tracing.begin.Goals as goal
 

@@ -3,7 +3,7 @@ use Rattle.std.proofs.Common.{List, sym, subst}
 use Rattle.m2_run_trace.specs.Acts.{CanDo}
 use Rattle.m2_run_trace.proofs.LineActs.{deeds_of_script}
 use Rattle.m2_run_trace.proofs.tracing.can_be_played.Goals as goal
-use Rattle.m2_script.specs.Script.{Deed}
+use Rattle.m2_promise.specs.m2_script.Script.{Deed}
 use Rattle.m2_scenario.specs.Text.{pieces}
 
 pub returns : goal.returns
