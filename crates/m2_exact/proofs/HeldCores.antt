@@ -4,14 +4,13 @@ use Rattle.std.specs.Prelude.{IfSome}
 use Rattle.m2_dispatch.specs.m2_shared.Throttle.{SeenGrant}
 use Rattle.m2_fabric.specs.declared.end.EndRead.{EndRead}
 use Rattle.m2_fabric.specs.declared.end.EndRead.TheVariants as read
-use Rattle.m2_script.proofs.m2_center.m2_turn.m2_session.Events.{fault_closes}
 use Rattle.m2_script.specs.m2_center.m2_core.CoreNow.{CoreNow}
 use Rattle.m2_script.specs.m2_center.m2_core.Effects.{closes, discards, has_effects, requeues, sets_back, tells, where_true}
 use Rattle.m2_script.specs.m2_center.m2_core.Front as front
 use Rattle.m2_script.specs.m2_center.m2_core.Front.{FrontHeard, before_front, front_in, front_of, heard_by, hearer_of, resumption_at}
 use Rattle.m2_script.specs.m2_center.m2_core.Hearing as hearing
-use Rattle.m2_script.specs.m2_center.m2_core.LiveCalls.{after_fault, tells_if}
-use Rattle.m2_script.specs.m2_center.m2_core.LiveNow.{LiveNow, is_granted_in, is_granted_on, is_ready, is_waiting}
+use Rattle.m2_script.specs.m2_center.m2_core.LiveCalls.{tells_if}
+use Rattle.m2_script.specs.m2_center.m2_core.LiveNow.{LiveNow, is_granted_in, is_granted_on, is_ready}
 use Rattle.m2_script.specs.m2_center.m2_core.OnFeed.{GreetsFeed, ReadsFeed, WritesFeed}
 use Rattle.m2_script.specs.m2_center.m2_feed.Calls.{heard_of, with_grant}
 use Rattle.m2_script.specs.m2_center.m2_feed.FeedNow.{FeedNow, Reading, framing, shaking}
@@ -100,9 +99,6 @@ none_still e l none = told_granted e l ∙ by (step_of l.session e).effects.clos
 pub none_told : (e : Option Event) (l : LiveNow) → l.granted ≡ None → (tells_if e l).granted ≡ None
 none_told (Some e) l none = none_still e l none
 none_told None l none = none
-
-pub fault_drops : (l : LiveNow) → (after_fault l).granted ≡ None
-fault_drops l = closed (event.Faulted (is_waiting l)) l (fault_closes l.session (is_waiting l))
 
 pub down_drops : (l : LiveNow) → (tells event.MarkedDown l).granted ≡ None
 down_drops l = closed event.MarkedDown l refl

@@ -13,6 +13,7 @@ use Rattle.m2_trail.specs.Asks.{facts_of_ask}
 use Rattle.m2_trail.specs.Incoming.{IncomingNow}
 use Rattle.m2_trail.specs.Trails.{opener_of}
 use Rattle.m2_script.proofs.m2_center.m2_turn.m2_core.Judged.{IsQuiet, answered_by, reconnect_takes, refuses_by, told_by}
+use Rattle.m2_script.proofs.m2_center.m2_turn.m2_feed.Heeding.{is_ready}
 use Rattle.m2_script.proofs.m2_center.m2_turn.m2_session.Answers.{answers_are_lawful_lem}
 use Rattle.m2_script.specs.m2_center.m2_core.Effects.{tells}
 use Rattle.m2_script.specs.m2_center.m2_core.Judging.{told_of, verdict_on}
@@ -137,15 +138,6 @@ ready_isnt_pending phase.ReconnectSent e h = cc e
 ready_isnt_pending phase.Standby e h = cc e
 ready_isnt_pending phase.Wait e h = cc e
 
-ready_phase : (p : Phase) → phases.is p phase.Ready ≡ true → p ≡ phase.Ready
-ready_phase phase.Ready e = refl
-ready_phase phase.Absent e = absurd (cc e)
-ready_phase phase.Connecting e = absurd (cc e)
-ready_phase phase.IdentSent e = absurd (cc e)
-ready_phase phase.ReconnectSent e = absurd (cc e)
-ready_phase phase.Standby e = absurd (cc e)
-ready_phase phase.Wait e = absurd (cc e)
-
 -- a session that keeps the cookies of its policy, in Ready, and an ask that has one
 has_cookie : (f : SideFacts) (s : Session) (asked : ℕ) → SessionIsSound f s → phases.is s.phase phase.Ready ≡ true → asked ≢ 0 → is_kept s.server_cookie || differs s.client_cookie asked ≡ true
 has_cookie f s asked sound ready other = by f.policy.lossy refl
@@ -154,7 +146,7 @@ has_cookie f s asked sound ready other = by f.policy.lossy refl
     by true e =
         or_right (is_kept s.server_cookie) (differs s.client_cookie asked)
         (ap (λ (n : ℕ). not (n == asked)) (sound.client e) ∙ ap not (test_turned 0 asked) ∙ not_zero_is_tested asked other)
-    by false e = or_left (is_kept s.server_cookie) (differs s.client_cookie asked) (not_zero_is_tested s.server_cookie (sound.server e (ready_phase s.phase ready)))
+    by false e = or_left (is_kept s.server_cookie) (differs s.client_cookie asked) (not_zero_is_tested s.server_cookie (sound.server e (is_ready s.phase ready)))
 
 -- in Ready none is told
 ready_has_none_pending : (b : Bool) (f : SideFacts) (s : Session) (a k : AskFacts) (written server : ℕ) → SessionIsSound f s → phases.is s.phase phase.Ready ≡ true → (b ≡ false → a.client ≢ 0) →

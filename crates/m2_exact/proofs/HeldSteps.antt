@@ -7,6 +7,7 @@ use Rattle.m2_dispatch.specs.m2_shared.Place.{IsAlone}
 use Rattle.m2_fabric.specs.declared.end.EndRead.{EndRead}
 use Rattle.m2_fabric.specs.declared.end.EndRead.TheVariants as read
 use Rattle.m2_fabric.specs.m2_bytes.declared.memory.NoMemory as memory
+use Rattle.m2_script.proofs.m2_center.m2_turn.m2_core.Helds as helds
 use Rattle.m2_script.proofs.m2_center.m2_turn.m2_record.Arriving.{session-sound}
 use Rattle.m2_script.specs.m2_center.m2_core.CoreNow.{CoreNow}
 use Rattle.m2_script.specs.m2_center.m2_core.Counting.{CountsIf, to_count}
@@ -124,7 +125,7 @@ less_by n m old new e h = subst (λ (k : ℕ). Less k old new) e h
 
 pub breaks : (now : ℕ) (old new : RecordNow) → Breaks now old new → Less (live.held old.core.live.granted) old new
 breaks now old new h =
-    drops old new (ap (λ (r : RecordNow). r.core.live.granted) h ∙ cores.fault_drops old.core.live)
+    drops old new (ap (λ (r : RecordNow). r.core.live.granted) h ∙ helds.drops old.core.live)
     (ap (λ (r : RecordNow). all_granted r.parcels) h ∙ sums.told_behind old.parcels old.place _ _)
 
 pub goes_down : (planned : Bool) (old new : RecordNow) → GoesDown planned old new → Less (live.held old.core.live.granted) old new

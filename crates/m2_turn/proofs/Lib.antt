@@ -21,6 +21,7 @@ pub mod Turned
 pub mod Waiting
 pub mod Wholes
 pub use Rattle.m2_record.proofs.m2_core as m2_core
+pub use Rattle.m2_feed.proofs as m2_feed
 pub use Rattle.m2_handshake.proofs as m2_handshake
 pub use Rattle.m2_record.proofs as m2_record
 pub use Rattle.m2_session.proofs as m2_session
