@@ -29,7 +29,7 @@ SHORT = 1_500  # of one in which they send much, all of which is looked at in th
 
 # docs/PROTOCOL.md, "What a socket costs a node": bytes at most for each socket, for each byte that came on it or went out, and
 # for each read or write there.
-A_SOCKET, A_BYTE, A_MOVE = 300_000, 8, 384
+A_SOCKET, A_BYTE, A_MOVE = 300_000, 8, 192
 MOST_HALVES = 64
 
 
