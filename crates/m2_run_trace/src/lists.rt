@@ -1,6 +1,6 @@
 //! Parts of lists.
 
-ghost use Rattle.std.specs.Prelude.{◌≡◌, drop, slice_get, take};
+ghost use Rattle.std.specs.Prelude.{◌≡◌, drop, slice_get};
 ghost use Rattle.std.specs.Option.{option_copied};
 
 /// The item at a place, from 0; none exactly where there is none.
@@ -18,16 +18,5 @@ pub(crate) fn behind<T>(items: &[T], count: usize) -> &[T]
         &items[count..]
     } else {
         &[]
-    }
-}
-
-/// The first so many items.
-pub(crate) fn front<T>(items: &[T], count: usize) -> &[T]
-    ensures { result.now ≡ take count items.now }
-{
-    if count < items.len() {
-        &items[..count]
-    } else {
-        items
     }
 }
