@@ -22,7 +22,6 @@ use Rattle.m2_script.specs.m2_center.m2_feed.m2_journal.declared.facts.PlanStep.
 use Rattle.m2_script.specs.m2_center.m2_record.Calls.{IsSameButRoom, planned_too, returned_by}
 use Rattle.m2_script.specs.m2_center.m2_record.RecordNow.{RecordNow}
 use Rattle.m2_script.specs.m2_center.m2_turn.Outbox as out
-use Rattle.m2_script.specs.m2_center.m2_turn.Outbox.{OutboxNow}
 use Rattle.m2_script.specs.m2_center.m2_turn.RecordTurn.{Means}
 use Rattle.m2_script.specs.m2_center.m2_turn.declared.accepting.Accepted.{Accepted}
 use Rattle.m2_script.specs.m2_center.m2_turn.declared.halves_turn.HalvesTurn.{HalvesTurn}
@@ -37,7 +36,6 @@ use Rattle.m2_exact.proofs.HeldRecords as all
 use Rattle.m2_exact.proofs.HeldSteps as steps
 use Rattle.m2_exact.proofs.HeldSteps.{Less}
 use Rattle.m2_exact.proofs.HeldSums as sums
-use Rattle.m2_exact.proofs.HeldSums.{Follows}
 use Rattle.m2_exact.proofs.Lists.{all_like, all_set}
 use Rattle.m2_exact.specs.Holding.{CentersHoldTheirWords, HoldsItsWord, HoldsRightly, IsHeldRightly, NodeHoldsItsWord, held_in_record, held_in_records, held_in_center}
 

@@ -28,7 +28,7 @@ use Rattle.m2_script.specs.m2_center.m2_record.declared.due.Due.TheVariants as d
 use Rattle.m2_script.specs.m2_center.m2_turn.Connecting.{AtPort, DialsFor, DialsIfDue, Takes}
 use Rattle.m2_script.specs.m2_center.m2_turn.Outbox as out
 use Rattle.m2_script.specs.m2_center.m2_turn.Outbox.{OutboxNow, RetriesFor, held_in, is_free, returned_again}
-use Rattle.m2_script.specs.m2_center.m2_turn.RecordTurn.{Means, Turning, TurnsAs}
+use Rattle.m2_script.specs.m2_center.m2_turn.RecordTurn.{Means, TurnsAs}
 use Rattle.m2_script.specs.m2_center.m2_turn.RecordsTurn.{AllAmid, Amid, Around, DialsAndSteps, EachTurns, TurnsEach, TurnsIf, amid, at_port, come_to, sides_of, turning_amid}
 use Rattle.m2_script.specs.m2_center.m2_turn.declared.record_turn.RecordTurn.{RecordTurn}
 use Rattle.m2_script.specs.m2_center.m2_turn.declared.record_turn.RecordTurn.TheVariants as one
@@ -39,7 +39,6 @@ use Rattle.m2_exact.proofs.HeldSteps.{Less}
 use Rattle.m2_exact.proofs.HeldSums as sums
 use Rattle.m2_exact.proofs.HeldSums.{Follows}
 use Rattle.m2_exact.proofs.HeldTurns as turns
-use Rattle.m2_exact.proofs.HeldTurns.{Turns, held_turning}
 use Rattle.m2_exact.proofs.RecordsTurns.{done_memory}
 use Rattle.m2_exact.specs.Holding.{HoldsRightly, held_in_record, held_in_records}
 

@@ -13,7 +13,7 @@ use Rattle.m2_script.specs.m2_center.m2_record.Calls.{all_granted, granted_in}
 use Rattle.m2_script.specs.m2_center.m2_record.declared.stepped.Stepped.{Stepped}
 use Rattle.m2_script.specs.m2_center.m2_record.declared.stepped.Stepped.TheVariants as stepped
 use Rattle.m2_script.specs.m2_center.m2_turn.Outbox as out
-use Rattle.m2_script.specs.m2_center.m2_turn.Outbox.{DispatchesOr, OutboxNow, Puts, PutsLetter, held_in, is_free, returned, returned_for, returned_on}
+use Rattle.m2_script.specs.m2_center.m2_turn.Outbox.{DispatchesOr, OutboxNow, Puts, PutsLetter, held_in, returned, returned_for, returned_on}
 use Rattle.m2_script.specs.m2_center.m2_turn.RecordTurn.{EndsBy, EndsWith, GivesHanded, LeadsOn, LedOn, Means, PutsHanded, Steps, TakesStep, Turning, TurnsAs, worked_by}
 use Rattle.m2_script.specs.m2_center.m2_turn.declared.record_turn.RecordTurn.{RecordTurn}
 use Rattle.m2_script.specs.m2_center.m2_turn.declared.record_turn.RecordTurn.TheVariants as turn

@@ -1,7 +1,6 @@
 -- What passes between ends in memory is told by what is seen of their networks.
 use Rattle.std.proofs.Common.{◌≡◌, ◌≢◌, ℕ, ◌+◌, ◌==◌, ◌&&◌, ◌||◌, not, ◌++◌, Bool, true, false, if◌then◌else◌, List, [], ◌∷◌, drop, length, map, Option, None, Some, refl, sym, subst, ◌∙◌, ap}
 use Rattle.std.specs.Prelude.{fold, get_or}
-use Rattle.std.specs.List.{flat_map}
 use Rattle.std.specs.Option.{option_map}
 use Rattle.std.proofs.lemmas.Bool.{eqb-true}
 use Rattle.m2_fabric.proofs.m2_lemmas.Numbers.{same_number}
