@@ -46,7 +46,7 @@ pub returns-in-Faulted-clause-handed : goal.returns-in-Faulted-clause-handed
 returns-in-Faulted-clause-handed g c = says_same c.args.handed.now _ _ (steps (stepped.Faulted c.in-Faulted.cause) _ c.args.side.now c.step-stepped.new.self refl c.in-Faulted.ensures.steps)
 
 pub returns-in-NoMemory-clause-handed : goal.returns-in-NoMemory-clause-handed
-returns-in-NoMemory-clause-handed g c = says_same c.args.handed.now c.args.side.now.handed c.step-stepped.new.self.handed (ap (λ (r : RecordNow). r.handed) c.in-NoMemory.ensures.steps.only)
+returns-in-NoMemory-clause-handed g c = says_same c.args.handed.now c.args.side.now.handed c.step-stepped.new.self.handed (ap (λ (r : RecordNow). r.handed) c.in-NoMemory.ensures.steps.nothing.only)
 
 pub returns-in-Hand-clause-handed : goal.returns-in-Hand-clause-handed
 returns-in-Hand-clause-handed g c = says_hand c.args.handed.now c.in-Hand.parcel _ c.args.side.now c.step-stepped.new.self refl c.in-Hand.ensures.steps
