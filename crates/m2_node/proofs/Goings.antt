@@ -10,7 +10,7 @@ use Rattle.m2_links_go_on.specs.Course.{DialsInTime}
 use Rattle.m2_links_go_on.specs.Made.{NodeMade}
 use Rattle.m2_dispatch.specs.declared.logged.Logged.{Logged}
 use Rattle.m2_script.specs.m2_record.RecordNow.{RecordNow}
-use Rattle.m2_node.proofs.Way.{goes_then}
+use Rattle.m2_node.proofs.Way.{either, first_below, goes_then}
 use Rattle.m2_scenario.specs.declared.node.Node.{Node}
 use Rattle.m2_node.specs.Nodes.{RunNodeNow}
 use Rattle.m2_node.specs.Sharing.{ShareNow}
@@ -46,12 +46,6 @@ waits_until may_give from now started c given later = record {
 }
 
 -- ---- the latest moment
-
-either : (a b : ℕ) → (max a b ≡ a) ⊎ (max a b ≡ b)
-either a b = grind arith
-
-first_below : (a b : ℕ) → a ≤ max a b
-first_below a b = grind arith
 
 second_below : (a b : ℕ) → b ≤ max a b
 second_below a b = grind arith

@@ -1,4 +1,5 @@
 pub mod Beside
+pub mod Counted
 pub mod Dispatched
 pub mod DispatchedNodes
 pub mod DoorsBegin
@@ -23,6 +24,7 @@ pub mod SharesMade
 pub mod StepLists
 pub mod TakenOut
 pub mod Turned
+pub mod Watched
 pub mod Way
 pub mod Workers
 pub mod WorkersBegin

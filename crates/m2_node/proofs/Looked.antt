@@ -23,7 +23,7 @@ set_others (x ∷ xs) (suc j) (suc i) y apart = set_others xs j i y (λ s. apart
 
 -- by one look into one of them
 pub looks_at : (mails : List Mail) (s : ServingNow) (d : DispatcherNow) (j : ℕ) (any : Bool) (g h : GetPass Parcel Ids) → slice_get s.gets j ≡ Some g → Looks any g h
-    → LooksAt mails j any s (record { dispatcher = d; gets = slice_set s.gets j h; first = s.first })
+    → LooksAt mails j any s (record s { dispatcher = d; gets = slice_set s.gets j h })
 looks_at mails s d j any g h at_get looks = record {
   looks = λ m k l at rights.
       let old : g ≡ k = same_Some g k (sym at_get ∙ rights.0) in

@@ -291,7 +291,7 @@ servers_still first (x ∷ nodes) [] old new all are = absurd are
 servers_still first (x ∷ nodes) (s ∷ shares) [] new all are = absurd are
 servers_still first (x ∷ nodes) (s ∷ shares) (v ∷ old) [] all are = absurd all
 servers_still first (x ∷ nodes) (s ∷ shares) (v ∷ old) (w ∷ new) all are = (
-  record { count = all.0.count ∙ are.0.count; first_is = all.0.first ∙ are.0.first_is; place = all.0.place ∙ are.0.place },
+  record { count = all.0.count ∙ are.0.count; first_is = all.0.first ∙ are.0.first_is; place = all.0.place ∙ are.0.place; started = all.0.started ∙ are.0.started },
   servers_still (first + x.centers) nodes shares old new all.1 are.1,
 )
 

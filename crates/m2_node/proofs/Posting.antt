@@ -1,5 +1,5 @@
 -- Mails and dispatchers are made for event threads, node by node.
-use Rattle.std.proofs.Common.{◌≡◌, ℕ, zero, suc, ◌+◌, ◌-◌, ◌<◌, ◌≤◌, min, false, List, [], ◌∷◌, ◌++◌, length, map, take, drop, Some, refl, sym, ap, subst, ◌∙◌, arith, append_assoc, append-nil, drop_of_length-le, take-append-drop}
+use Rattle.std.proofs.Common.{◌≡◌, ℕ, zero, suc, ◌+◌, ◌-◌, ◌<◌, ◌≤◌, min, Bool, false, List, [], ◌∷◌, ◌++◌, length, map, take, drop, Some, refl, sym, ap, subst, ◌∙◌, arith, append_assoc, append-nil, drop_of_length-le, take-append-drop}
 use Rattle.std.specs.Prelude.{slice_get, sum_by}
 use Rattle.std.specs.List.{AllByRecursion}
 use Rattle.std.proofs.lemmas.List.{drop_at, length-append, length-map, map-append}
@@ -23,6 +23,7 @@ use Rattle.m2_node.specs.Handing.{HasHandedNothing, IsSending, SenderNow, worker
 use Rattle.m2_node.specs.Lists.{SideBySide}
 use Rattle.m2_node.specs.Posts.{AddsPosts, ArePosts, AreServersOf, PostsNow}
 use Rattle.m2_node.specs.Sharing.{AreRights, ShareNow}
+use Rattle.m2_node.specs.Watching.{new_watch}
 use Rattle.m2_node.specs.Working.{AreGrouped, IsGroup, WorkerNow}
 use Rattle.m2_node.proofs.Beside.{side_both, side_get, side_last, side_length}
 use Rattle.m2_node.proofs.Places.{drop_here, get_before, get_drop}
@@ -145,12 +146,18 @@ behind_all : {X : Type 0} (xs ys : List X) (j : ℕ) → slice_get (xs ++ ys) (l
 behind_all xs ys j = sym (get_drop (xs ++ ys) (length xs) j) ∙ ap (λ (zs : List _). slice_get zs j) (drop_at xs ys (length xs) refl)
 
 -- the dispatcher's thread of a node, before it takes anything
-abbrev new_server : ShareNow → (first : ℕ) → List (GetPass Parcel Ids) → ServingNow
-new_server s first gets = record { dispatcher = record { place = s.throttle.place; log = []; lost = false }; gets = gets; first = first }
+abbrev new_server : ShareNow → (started : Bool) → (first : ℕ) → List (GetPass Parcel Ids) → ServingNow
+new_server s started first gets = record {
+  dispatcher = record { place = s.throttle.place; log = []; lost = false };
+  gets = gets;
+  first = first;
+  started = started;
+  watch = new_watch;
+}
 
-serves_fresh : (s : ShareNow) (mails_old fresh : List Mail) (gets : List (GetPass Parcel Ids)) → SideBySide (IsUntaken s.throttle.place) fresh gets →
-    IsServing (mails_old ++ fresh) (new_server s (length mails_old) gets)
-serves_fresh s mails_old fresh gets untaken = record {
+serves_fresh : (s : ShareNow) (started : Bool) (mails_old fresh : List Mail) (gets : List (GetPass Parcel Ids)) → SideBySide (IsUntaken s.throttle.place) fresh gets →
+    IsServing (mails_old ++ fresh) (new_server s started (length mails_old) gets)
+serves_fresh s started mails_old fresh gets untaken = record {
   ours = λ j m g p q.
       let u = side_get (IsUntaken s.throttle.place) fresh gets untaken j m g (sym (behind_all mails_old fresh j) ∙ p) q in
       (u.gets, u.owner);
@@ -159,13 +166,13 @@ serves_fresh s mails_old fresh gets untaken = record {
 
 pub all_added : (x : Node) (s : ShareNow) (most n : ℕ) (old : PostsNow) (senders : List SenderNow) (mails : List Mail) (gets : List (GetPass Parcel Ids)) (servers : List ServingNow)
     (ws all others : List WorkerNow) → most ≤ n → IsGroup x s all → AddedSoFar s (most - n) old.senders old.mails senders mails gets ws all others →
-    servers ≡ old.servers ++ new_server s (length old.mails) gets ∷ [] → AddsPosts x s all old (record { senders = senders; servers = servers; mails = mails })
+    servers ≡ old.servers ++ new_server s x.started (length old.mails) gets ∷ [] → AddsPosts x s all old (record { senders = senders; servers = servers; mails = mails })
 all_added x s most n old senders mails gets servers ws all others behind group so_far server_last =
     let none : most - n ≡ zero = omega (arith, behind) in
     let a : AddedSoFar s zero old.senders old.mails senders mails gets ws all others =
     subst (λ (k : ℕ). AddedSoFar s k old.senders old.mails senders mails gets ws all others) none so_far in
     let workers_are : map worker_of a.added ≡ all = sym (append-nil (map worker_of a.added)) ∙ a.so_far in
-    let v = new_server s (length old.mails) gets in
+    let v = new_server s x.started (length old.mails) gets in
     record {
       senders = a.added;
       server = v;
@@ -179,8 +186,10 @@ all_added x s most n old senders mails gets servers ws all others behind group s
         count = omega (arith, side_length (IsUntaken s.throttle.place) a.fresh gets a.untaken, side_length IsSending a.fresh a.added a.sending, length-map a.added worker_of, ap length workers_are, group.count);
         first_is = refl;
         place = refl;
+        started = refl;
       };
-      serving = subst (λ (ms : List Mail). IsServing ms v) (sym a.mails_are) (serves_fresh s old.mails a.fresh gets a.untaken);
+      serving = subst (λ (ms : List Mail). IsServing ms v) (sym a.mails_are) (serves_fresh s x.started old.mails a.fresh gets a.untaken);
+      lasted = refl;
     }
 
 -- all workers of the node are taken

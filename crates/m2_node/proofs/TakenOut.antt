@@ -31,7 +31,7 @@ set_elsewhere (x ∷ xs) (suc j) (suc i) y z apart e = set_elsewhere xs j i y z 
 module _ (mails : List Mail) (s : ServingNow) (d : DispatcherNow) (j : ℕ) (m : Mail) (g h : GetPass Parcel Ids) (more : List Parcel) (at_mail : slice_get mails (s.first + j) ≡ Some m)
     (at_get : slice_get s.gets j ≡ Some g) (ours : IsGetPassOf m h) (taken : taken_of h ≡ taken_of g ++ more) (does : HasDispatched more s.dispatcher d) (serving : IsServing mails s) where
   abbrev after : ServingNow
-  after = record { dispatcher = d; gets = slice_set s.gets j h; first = s.first }
+  after = record s { dispatcher = d; gets = slice_set s.gets j h }
 
   ours_at : (i : ℕ) (n : Mail) (k : GetPass Parcel Ids) → slice_get mails (s.first + i) ≡ Some n → slice_get (slice_set s.gets j h) i ≡ Some k → IsGetPassOf n k × ((owner_of n).place ≡ d.place)
   ours_at i n k a b = go (i == j) refl
@@ -61,10 +61,10 @@ module _ (mails : List Mail) (s : ServingNow) (d : DispatcherNow) (j : ℕ) (m :
   }
 
   pub serves_on : Serves s after
-  serves_on = record { place = does.place; count = set_keeps_length s.gets j g h at_get; first = refl }
+  serves_on = record { place = does.place; count = set_keeps_length s.gets j g h at_get; first = refl; started = refl }
 
 pub serves_not : (s : ServingNow) → Serves s s
-serves_not s = record { place = refl; count = refl; first = refl }
+serves_not s = record { place = refl; count = refl; first = refl; started = refl }
 
 pub serves_then : (a b c : ServingNow) → Serves a b → Serves b c → Serves a c
-serves_then a b c x y = record { place = y.place ∙ x.place; count = y.count ∙ x.count; first = y.first ∙ x.first }
+serves_then a b c x y = record { place = y.place ∙ x.place; count = y.count ∙ x.count; first = y.first ∙ x.first; started = y.started ∙ x.started }

@@ -1,19 +1,21 @@
 -- Centers go on: in a turn, where they wait, where time passes, and in one of these after another.
-use Rattle.std.proofs.Common.{◌≡◌, inl, inr, ℕ, ◌≤◌, Bool, true, List, refl, sym, subst, ◌∙◌, le_refl, le_trans}
+use Rattle.std.proofs.Common.{◌≡◌, ◌⊎◌, inl, inr, ℕ, zero, suc, ◌≤◌, max, Bool, true, false, List, refl, sym, ap, subst, ◌∙◌, le_refl, le_trans, arith}
 use Rattle.m2_script.specs.m2_center.Center.{CenterNow}
 use Rattle.m2_script.specs.m2_center.CenterTurn.{means_at}
 use Rattle.m2_links_go_on.specs.CourseLaws.{PollsStayOnCourse, TurnsStayOnCourse, WaitingStaysOnCourse}
 use Rattle.m2_links_go_on.specs.Made.{NodeMade}
 use Rattle.m2_dispatch.specs.Heard.{heard_by}
 use Rattle.m2_dispatch.specs.declared.logged.Logged.{Logged}
+use Rattle.m2_edge.specs.Clock.{IsNextMoment}
 use Rattle.m2_fabric.proofs.m2_lemmas.Booleans.{from_true_false}
 use Rattle.m2_links_go_on.specs.ClusterLaws.{TurnGrows}
 use Rattle.m2_links_go_on.specs.LeftLaws.{ComingStays}
 use Rattle.m2_links_go_on.specs.LogLaws.{TurnsStayLogged, holding_in}
 use Rattle.m2_links_go_on.specs.PeerLaws.{TurnsStayOfPeers}
-use Rattle.m2_node.specs.Way.{GoesOn, IsUnderWay, StepsSo}
+use Rattle.m2_node.specs.Watching.{Steps}
+use Rattle.m2_node.specs.Way.{GoesOn, IsUnderWay}
 use Rattle.m2_node.specs.WayLaws.{PollsGoOn, StepsGoOn, TurnsGoOn, WaitingGoesOn}
-use Rattle.m2_node.specs.Working.{WorkerNow, Works}
+use Rattle.m2_node.specs.Working.{Runs, Stops, TurnsOnce, WaitsOnce, WorkerNow, Works}
 
 -- ---- a center
 
@@ -101,18 +103,88 @@ works_then may_give a b c f g = record {
       (subst (λ (s : Bool). GoesOn may_give b.moment c.moment s b.center c.center) f.started (g.goes (f.given given)));
 }
 
+-- ---- the greater of two
+
+pub either : (a b : ℕ) → (max a b ≡ a) ⊎ (max a b ≡ b)
+either a b = grind arith
+
+pub first_below : (a b : ℕ) → a ≤ max a b
+first_below a b = grind arith
+
+next_later : (may_give : ℕ → Type 0) (earlier moment : ℕ) → IsNextMoment may_give earlier moment → earlier ≤ moment
+next_later may_give earlier moment next = subst (λ (m : ℕ). earlier ≤ m) (sym next.2) (first_below earlier next.0)
+
+next_given : (may_give : ℕ → Type 0) (earlier moment : ℕ) → IsNextMoment may_give earlier moment → may_give earlier → may_give moment
+next_given may_give earlier moment next given = subst may_give (sym next.2) (elim (either earlier next.0) [
+  | inl same ↦ subst may_give (sym same) given
+  | inr same ↦ subst may_give (sym same) next.1
+])
+
+-- ---- a worker, step by step
+
 -- one that is on takes a turn, behind which its thread may wait
-pub works_by : (E C : Type 0) (may_give : C → ℕ → Type 0) → StepsGoOn E C may_give → (clock : C) (old new : WorkerNow) (now : ℕ) → old.started ≡ true → old.moment ≤ now →
-    (may_give clock old.moment → may_give clock now) → new.moment ≡ now → new.started ≡ old.started → new.numbers ≡ old.numbers → new.throttle ≡ old.throttle →
-    StepsSo E now old.numbers old.throttle old.center new.center → Works (may_give clock) old new
-works_by E C may_give steps clock old new now on later given moment started numbers throttle s = record {
-  numbers = numbers;
-  throttle = throttle;
-  started = started;
-  later = subst (λ (m : ℕ). old.moment ≤ m) (sym moment) later;
-  given = λ g. subst (may_give clock) (sym moment) (given g);
-  goes = λ g.
-      subst (λ (m : ℕ). GoesOn (may_give clock) old.moment m old.started old.center new.center) (sym moment)
-      (subst (λ (b : Bool). GoesOn (may_give clock) old.moment now b old.center new.center) (sym on)
-      (steps clock old.moment now old.numbers old.throttle old.center new.center s (given g) later));
-}
+works_turning : (E C : Type 0) (may_give : C → ℕ → Type 0) → StepsGoOn E C may_give → (clock : C) (old new : WorkerNow) → old.started ≡ true → TurnsOnce E (may_give clock) old new →
+    Works (may_give clock) old new
+works_turning E C may_give steps clock old new on t =
+    let later = next_later (may_give clock) old.moment new.moment t.moment in
+    let given = next_given (may_give clock) old.moment new.moment t.moment in
+    record {
+      numbers = ap (λ (w : WorkerNow). w.numbers) t.same;
+      throttle = ap (λ (w : WorkerNow). w.throttle) t.same;
+      started = ap (λ (w : WorkerNow). w.started) t.same;
+      later = later;
+      given = given;
+      goes = λ g.
+          subst (λ (b : Bool). GoesOn (may_give clock) old.moment new.moment b old.center new.center) (sym on)
+          (steps clock old.moment new.moment old.numbers old.throttle old.center new.center t.steps (given g) later);
+    }
+
+-- or its thread waits
+works_waiting : (C : Type 0) (may_give : C → ℕ → Type 0) → PollsGoOn C may_give → (clock : C) (old new : WorkerNow) → old.started ≡ true → WaitsOnce old new → Works (may_give clock) old new
+works_waiting C may_give polls clock old new on w =
+    let moment : new.moment ≡ old.moment = ap (λ (v : WorkerNow). v.moment) w.same in
+    record {
+      numbers = ap (λ (v : WorkerNow). v.numbers) w.same;
+      throttle = ap (λ (v : WorkerNow). v.throttle) w.same;
+      started = ap (λ (v : WorkerNow). v.started) w.same;
+      later = subst (λ (m : ℕ). old.moment ≤ m) (sym moment) (le_refl old.moment);
+      given = λ g. subst (may_give clock) (sym moment) g;
+      goes = λ g.
+          subst (λ (m : ℕ). GoesOn (may_give clock) old.moment m old.started old.center new.center) (sym moment)
+          (subst (λ (b : Bool). GoesOn (may_give clock) old.moment old.moment b old.center new.center) (sym on)
+          (polls clock old.moment old.center new.center w.polls));
+    }
+
+-- or is told to stop
+works_stopping : (may_give : ℕ → Type 0) (old new : WorkerNow) → Stops old new → Works may_give old new
+works_stopping may_give old new stops = subst (λ (w : WorkerNow). Works may_give old w) (sym stops) (record {
+  numbers = refl;
+  throttle = refl;
+  started = refl;
+  later = le_refl old.moment;
+  given = λ g. g;
+  goes = λ g. goes_not may_give old.moment old.started old.center;
+})
+
+module _ (E C : Type 0) (may_give : C → ℕ → Type 0) (steps : StepsGoOn E C may_give) (polls : PollsGoOn C may_give) (clock : C) where
+  works_once : (old new : WorkerNow) → old.started ≡ true → TurnsOnce E (may_give clock) old new ⊎ WaitsOnce old new → Works (may_give clock) old new
+  works_once old new on step = elim step [
+    | inl turns ↦ works_turning E C may_give steps clock old new on turns
+    | inr waits ↦ works_waiting C may_give polls clock old new on waits
+  ]
+
+  works_often : (count : ℕ) (old new : WorkerNow) → old.started ≡ true → Steps (λ (v w : WorkerNow). TurnsOnce E (may_give clock) v w ⊎ WaitsOnce v w) count old new → Works (may_give clock) old new
+  works_often zero old new on same = subst (λ (w : WorkerNow). Works (may_give clock) old w) (sym same) (works_not (may_give clock) old)
+  works_often (suc n) old new on s =
+      let first = works_often n old s.0 on s.1 in
+      works_then (may_give clock) old s.0 new first (works_once s.0 new (first.started ∙ on) s.2)
+
+  -- and until it is told to stop
+  pub works_all : (old new : WorkerNow) → Runs E (may_give clock) old new → Works (may_give clock) old new
+  works_all old new r = go old.started refl
+    where
+      go : (b : Bool) → old.started ≡ b → Works (may_give clock) old new
+      go true on =
+          let u = r.on on in
+          works_then (may_give clock) old u.last new (works_often u.count old u.last on u.steps) (works_stopping (may_give clock) u.last new u.stop)
+      go false off = subst (λ (w : WorkerNow). Works (may_give clock) old w) (sym (r.off off)) (works_not (may_give clock) old)

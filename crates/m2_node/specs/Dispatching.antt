@@ -19,6 +19,7 @@ use Rattle.m2_mailbox.specs.declared.inbox.Inbox.{Inbox}
 use Rattle.m2_mailbox.specs.declared.inbox.TheConstants.{MOST_PARCELS}
 use Rattle.m2_mailbox.specs.declared.passes.GetPass.{GetPass}
 use Rattle.m2_mailbox.specs.declared.passes.PutPass.{PutPass}
+use Rattle.m2_node.specs.Watching.{RunsSo, WatchNow, told}
 
 -- ---- a dispatcher
 
@@ -69,11 +70,13 @@ pub record HasEmptied (puts : List (List Parcel)) (taken : List Parcel) (old new
 
 -- ---- its thread
 
--- the dispatcher, its rights to take, and the number of the first mail of its node
+-- the dispatcher, its rights to take, the number of the first mail of its node, whether its thread takes any, and what that was told
 pub record ServingNow : Type 0 where
   pub dispatcher : DispatcherNow
   pub gets : List (GetPass Parcel Ids)
   pub first : ℕ
+  pub started : Bool
+  pub watch : WatchNow
 
 -- what the parcels that were taken are dispatched as
 abbrev pub taken_by : GetPass Parcel Ids → List Heard
@@ -91,6 +94,7 @@ pub record Serves (old new : ServingNow) : Type 0 where
   pub place : new.dispatcher.place ≡ old.dispatcher.place
   pub count : length new.gets ≡ length old.gets
   pub first : new.first ≡ old.first
+  pub started : new.started ≡ old.started
 
 -- one look into a mail by this right: whether a parcel was there, which was taken then, and nothing else
 pub record Looks (any : Bool) (old new : GetPass Parcel Ids) : Type 0 where
@@ -118,3 +122,18 @@ pub record LooksBefore (mails : List Mail) (k : ℕ) (any : Bool) (old new : Ser
 -- one look into each mail of its node
 abbrev pub LooksIntoAll : (mails : List Mail) (any : Bool) (old new : ServingNow) → Type 0
 LooksIntoAll mails any old new = LooksBefore mails (length old.gets) any old new
+
+-- it was told to go on, and looked once into each mail of its node
+pub record ServesOnce (mails : List Mail) (old new : ServingNow) : Type 0 where
+  pub goes : new.watch ≡ told true old.watch
+  pub any : Bool
+  pub looks : LooksIntoAll mails any old new
+
+-- it was told to stop
+abbrev pub StopsServing : (old new : ServingNow) → Type 0
+StopsServing old new = new ≡ record old { watch = told false old.watch }
+
+-- It looked into each mail of its node exactly as often as it was told to go on, until it was told to stop; of a node that is off it did
+-- nothing.
+abbrev pub RunsServing : (mails : List Mail) → (old new : ServingNow) → Type 0
+RunsServing mails old new = RunsSo (ServesOnce mails) StopsServing old.started old new

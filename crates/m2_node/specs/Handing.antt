@@ -1,6 +1,6 @@
 -- What event threads hand on to the dispatcher of their node: each by a mail, into which it alone puts. And what the dispatcher was called
 -- with in the end. This project's own.
-use Rattle.std.specs.Prelude.{◌≡◌, false, List, [], ◌∷◌, ◌++◌, map}
+use Rattle.std.specs.Prelude.{◌≡◌, ◌⊎◌, ℕ, false, List, [], ◌∷◌, ◌++◌, length, map}
 use Rattle.m2_bytes.specs.Items.{Holding}
 use Rattle.m2_dispatch.specs.Heard.{Heard, heard_by}
 use Rattle.m2_dispatch.specs.Parcel.{heard_for_all}
@@ -16,7 +16,8 @@ use Rattle.m2_mailbox.specs.declared.passes.PutPass.{PutPass}
 use Rattle.m2_script.specs.m2_center.Center.{CenterNow}
 use Rattle.m2_node.specs.Dispatching.{DispatcherNow, Mail}
 use Rattle.m2_node.specs.Nodes.{RunNodeNow, fast_in, queued_in}
-use Rattle.m2_node.specs.Working.{WorkerNow}
+use Rattle.m2_node.specs.Watching.{RunsSo}
+use Rattle.m2_node.specs.Working.{Stops, TurnsOnce, WaitsOnce, WorkerNow}
 
 -- ---- what centers have handed on
 
@@ -90,3 +91,18 @@ pub record IsSending (mail : Mail) (s : SenderNow) : Type 0 where
   pub own : List Parcel
   pub puts : puts_of s.put ≡ own ∷ []
   pub handed : handed_by s.worker.center ≡ heard_for_all (own ++ s.waiting)
+
+-- at some moment the mail into which this alone puts held as many parcels as it has room for
+pub record HasFilled (put : PutPass Parcel Ids) : Type 0 where
+  pub gone : List Parcel
+  pub held : List Parcel
+  pub full : length held ≡ MOST_PARCELS
+  pub whole : IsMerge Parcel (puts_of put) (gone ++ held)
+
+-- it was told to go on, and took a turn; or it waited, since its mail was full
+abbrev pub SendsOnce : (E : Type 0) → (may_give : ℕ → Type 0) → (old new : SenderNow) → Type 0
+SendsOnce E may_give old new = TurnsOnce E may_give old.worker new.worker ⊎ (HasFilled new.put × WaitsOnce old.worker new.worker)
+
+-- Its thread did one of these exactly as often as it was told to go on, until it was told to stop; of a node that is off it did nothing.
+abbrev pub RunsSender : (E : Type 0) → (may_give : ℕ → Type 0) → (old new : SenderNow) → Type 0
+RunsSender E may_give old new = RunsSo (SendsOnce E may_give) (λ (s t : SenderNow). Stops s.worker t.worker) old.worker.started old new

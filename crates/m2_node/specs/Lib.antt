@@ -1,4 +1,5 @@
 pub mod Begins
+pub mod Counting
 pub mod Dispatching
 pub mod Ends
 pub mod Handing
@@ -10,6 +11,7 @@ pub mod Ports
 pub mod Posts
 pub mod Rooms
 pub mod Sharing
+pub mod Watching
 pub mod Way
 pub mod WayLaws
 pub mod Working

@@ -22,11 +22,13 @@ pub record PostsNow : Type 0 where
   pub servers : List ServingNow
   pub mails : List Mail
 
--- the dispatcher's thread of a node that shares this: it takes out of as many mails as the node has event threads, from this number on
+-- the dispatcher's thread of a node that shares this: it takes out of as many mails as the node has event threads, from this number on, where
+-- the node is on
 pub record IsServerOf (first : ℕ) (x : Node) (s : ShareNow) (v : ServingNow) : Type 0 where
   pub count : length v.gets ≡ x.centers
   pub first_is : v.first ≡ first
   pub place : v.dispatcher.place ≡ s.throttle.place
+  pub started : v.started ≡ x.started
 
 -- those of these nodes, in order, from a number on
 abbrev pub AreServersOf : (first : ℕ) → List Node → List ShareNow → List ServingNow → Type 0
@@ -54,6 +56,7 @@ pub record AddsPosts (x : Node) (s : ShareNow) (workers : List WorkerNow) (old n
   pub sending : SideBySide IsSending mails senders
   pub server_is : IsServerOf (length old.mails) x s server
   pub serving : IsServing new.mails server
+  pub lasted : server.dispatcher.lost ≡ false
 
 -- ---- mails that are closed
 

@@ -1,23 +1,27 @@
 -- Event threads of a run. This project's own.
-use Rattle.std.specs.Prelude.{◌≡◌, ℕ, ◌≤◌, Bool, List, [], ◌∷◌, drop, fold, length, map, max, take}
+use Rattle.std.specs.Prelude.{◌≡◌, ◌⊎◌, ℕ, ◌≤◌, Bool, true, false, List, [], ◌∷◌, drop, fold, length, map, max, take}
 use Rattle.std.specs.List.{AllByRecursion}
 use Rattle.m2_script.specs.m2_center.Center.{CenterNow}
 use Rattle.m2_dispatch.specs.declared.logged.Logged.{Logged}
 use Rattle.m2_dispatch.specs.m2_shared.Numbers.{SeenNumbers}
 use Rattle.m2_dispatch.specs.m2_shared.Throttle.{SeenThrottle}
 use Rattle.m2_links_go_on.specs.ClusterTold.{OneByOne}
+use Rattle.m2_edge.specs.Clock.{IsNextMoment}
 use Rattle.m2_scenario.specs.declared.node.Node.{Node}
 use Rattle.m2_node.specs.Nodes.{RunNodeNow}
 use Rattle.m2_node.specs.Sharing.{ShareNow}
-use Rattle.m2_node.specs.Way.{GoesOn}
+use Rattle.m2_node.specs.Watching.{RunsSo, WatchNow, told}
+use Rattle.m2_node.specs.Way.{GoesOn, PollsSo, StepsSo}
 
--- a center, what it shares with the others of its node, whether its thread takes turns, and the moment of its last turn
+-- a center, what it shares with the others of its node, whether its thread takes turns, the moment of its last turn, and what the thread was
+-- told
 pub record WorkerNow : Type 0 where
   pub center : CenterNow (List Logged)
   pub numbers : SeenNumbers
   pub throttle : SeenThrottle
   pub started : Bool
   pub moment : ℕ
+  pub watch : WatchNow
 
 abbrev pub center_of : WorkerNow → CenterNow (List Logged)
 center_of w = w.center
@@ -34,6 +38,28 @@ pub record Works (may_give : ℕ → Type 0) (old new : WorkerNow) : Type 0 wher
 -- all of them, one by one
 abbrev pub AllWork : (may_give : ℕ → Type 0) → (old new : List WorkerNow) → Type 0
 AllWork may_give old new = OneByOne (Works may_give) old new
+
+-- ---- step by step
+
+-- It was told to go on, and took a turn at the clock's moment, or at that of its last turn where the clock went back; behind it its thread may
+-- wait at the port.
+pub record TurnsOnce (E : Type 0) (may_give : ℕ → Type 0) (old new : WorkerNow) : Type 0 where
+  pub moment : IsNextMoment may_give old.moment new.moment
+  pub steps : StepsSo E new.moment old.numbers old.throttle old.center new.center
+  pub same : new ≡ record old { center = new.center; moment = new.moment; watch = told true old.watch }
+
+-- it was told to go on, and its thread waited at the port
+pub record WaitsOnce (old new : WorkerNow) : Type 0 where
+  pub polls : PollsSo old.center new.center
+  pub same : new ≡ record old { center = new.center; watch = told true old.watch }
+
+-- it was told to stop
+abbrev pub Stops : (old new : WorkerNow) → Type 0
+Stops old new = new ≡ record old { watch = told false old.watch }
+
+-- Its thread took a turn, or waited, exactly as often as it was told to go on, until it was told to stop; of a node that is off it did nothing.
+abbrev pub Runs : (E : Type 0) → (may_give : ℕ → Type 0) → (old new : WorkerNow) → Type 0
+Runs E may_give old new = RunsSo (λ (v w : WorkerNow). TurnsOnce E may_give v w ⊎ WaitsOnce v w) Stops old.started old new
 
 -- ---- those of nodes
 

@@ -38,6 +38,7 @@ mod sending;
 mod serving;
 mod sharing;
 mod threads;
+mod watch;
 mod way_laws;
 mod worker;
 

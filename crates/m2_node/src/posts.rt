@@ -4,20 +4,25 @@ ghost use Rattle.std.specs.Prelude.{◌≡◌, ◌≤◌, ◌-◌, ◌++◌, [],
 ghost use Rattle.std.specs.List.{AllByRecursion};
 ghost use Rattle.m2_dispatch.specs.Heard.{Heard, heard_by};
 ghost use Rattle.m2_dispatch.specs.m2_shared.Place.{IsShared};
+ghost use Rattle.m2_links_go_on.specs.ClusterTold.{OneByOne};
 ghost use Rattle.m2_mailbox.specs.Merge.{IsMerge};
 ghost use Rattle.m2_mailbox.specs.Passes.{IsGetPassOf, owner_of};
 ghost use Rattle.m2_node.specs.Dispatching.{taken_by};
 ghost use Rattle.m2_node.specs.Handing.{AreHanded, HasHandedNothing, IsSending, handed_by, worker_of};
 ghost use Rattle.m2_node.specs.Posts.{AddsPosts, AreClosable, AreDispatched, ArePosts, ClosesAll, ClosesSender};
 ghost use Rattle.m2_node.specs.Sharing.{AreRights, IsShare};
-ghost use Rattle.m2_node.specs.Working.{AllWork, AreGrouped, IsGroup, center_of};
+ghost use Rattle.m2_node.specs.Working.{AllWork, AreGrouped, IsGroup, Runs, center_of};
+ghost use Rattle.m2_node.specs.declared.end.RunEnd.{RunEnd};
 
 use crate::dispatcher::NodeDispatcher;
+use crate::end::RunEnd;
 use crate::mails::{Mail, close_mail, dispatch_all, let_mails_go, new_mail};
 use crate::node::Shares;
 use crate::sending::Sender;
 use crate::serving::Serving;
 use crate::threads::{throw_away, throw_away_worker, work_all};
+use crate::watch::Watch;
+use crate::way_laws::{polls_go_on, steps_go_on};
 use crate::worker::{Signs, Worker};
 use m2_bytes::NoMemory;
 use m2_dispatch::Parcel;
@@ -145,6 +150,7 @@ fn add_posts<'s, P: Port>(
         is_started: node.started,
         counts,
         told: 0,
+        watch: Watch::new(),
     });
     Ok(())
 }
@@ -189,8 +195,11 @@ where
     requires shared { AllByRecursion IsShare shares.now }
     requires nothing { AllByRecursion HasHandedNothing workers.items }
     ensures works { IfOk result (λ c. AllWork (C.may_give clock.now) workers.entry.items c.workers.items) }
+    ensures runs { IfOk result (λ c. OneByOne (Runs (RunEnd P.End) (C.may_give clock.now)) workers.entry.items c.workers.items) }
     ensures dispatched { IfOk result (λ c. AreDispatched nodes.now shares.now c.workers.items c.dispatchers.items) }
 {
+    steps_go_on::<RunEnd<P::End>, C>();
+    polls_go_on::<C>();
     let mut posts = posts_of(alloc, nodes, shares, rights, workers)?;
     work_all(rt, &mut posts, signs, clock, gate);
     close_posts(rt, alloc, nodes, shares, posts)
@@ -294,6 +303,7 @@ fn close_server<'s, R: Wait, P: Port>(
         is_started: _,
         counts: _,
         told: _,
+        watch: _,
     } = server;
     gets.reverse();
     match close_each(rt, gets, senders, mails, workers, &mut dispatcher) {
@@ -408,6 +418,7 @@ fn throw_away_posts<P: Port>(posts: Posts<'_, P>) {
             is_started: _,
             counts: _,
             told: _,
+            watch: _,
         } = server;
         let _log = dispatcher.into_log();
     }

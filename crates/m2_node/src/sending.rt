@@ -1,12 +1,15 @@
 //! An event thread and its mail.
 
-ghost use Rattle.std.specs.Prelude.{◌≡◌, ◌⊎◌, [], true, IfSome, slice_get};
+ghost use Rattle.std.specs.Bool.{OnFalse, OnTrue};
+ghost use Rattle.std.specs.Prelude.{◌≡◌, ◌≢◌, ◌⊎◌, [], true, IfSome, slice_get};
 ghost use Rattle.m2_dispatch.specs.Parcel.{AllOwned};
 ghost use Rattle.m2_dispatch.specs.m2_shared.Place.{IsShared};
 ghost use Rattle.m2_mailbox.specs.Passes.{IsPutPassOf, WasFull, owner_of};
 ghost use Rattle.m2_node.specs.Dispatching.{Mail as MailNow};
-ghost use Rattle.m2_node.specs.Handing.{IsSending};
-ghost use Rattle.m2_node.specs.Working.{WorkerNow, Works};
+ghost use Rattle.m2_node.specs.Handing.{IsSending, RunsSender, SenderNow, SendsOnce};
+ghost use Rattle.m2_node.specs.Watching.{UntilStop};
+ghost use Rattle.m2_node.specs.Working.{Stops, TurnsOnce, WaitsOnce, WorkerNow};
+ghost use Rattle.m2_node.specs.declared.end.RunEnd.{RunEnd};
 
 use crate::mails::Mail;
 use crate::worker::{Signs, Worker};
@@ -50,7 +53,7 @@ impl<'s, P: Port> Sender<'s, P> {
         gate: &G,
     )
         requires { IfSome (slice_get mails.now number) (λ m. IsSending m self.old) }
-        ensures works { Works (C.may_give clock.now) self.old.worker self.new.worker }
+        ensures runs { IfSome (slice_get mails.now number) (λ _. RunsSender (RunEnd P.End) (C.may_give clock.now) self.old self.new) }
         ensures sends { IfSome (slice_get mails.now number) (λ m. IsSending m self.new) }
     {
         if number < mails.len() {
@@ -68,7 +71,7 @@ impl<'s, P: Port> Sender<'s, P> {
         gate: &G,
     )
         requires { IsSending mail.now self.old }
-        ensures works { Works (C.may_give clock.now) self.old.worker self.new.worker }
+        ensures runs { RunsSender (RunEnd P.End) (C.may_give clock.now) self.old self.new }
         ensures sends { IsSending mail.now self.new }
     {
         if self.worker.is_started() {
@@ -87,7 +90,7 @@ impl<'s, P: Port> Sender<'s, P> {
     )
         requires started { self.old.worker.started ≡ true }
         requires sends { IsSending mail.now self.old }
-        ensures works { Works (C.may_give clock.now) self.old.worker self.new.worker }
+        ensures runs { UntilStop (SendsOnce (RunEnd P.End) (C.may_give clock.now)) (λ (s : SenderNow) (t : SenderNow). Stops s.worker t.worker) self.old self.new }
         ensures sends { IsSending mail.now self.new }
     {
         'turns: for _ in rt.forever() {
@@ -112,7 +115,9 @@ impl<'s, P: Port> Sender<'s, P> {
     ) -> bool
         requires started { self.old.worker.started ≡ true }
         requires shared { IsShared self.old.worker.throttle.place }
-        ensures works { Works (C.may_give clock.now) self.old.worker self.new.worker }
+        ensures goes { OnTrue result (((self.old.waiting ≡ []) × TurnsOnce (RunEnd P.End) (C.may_give clock.now) self.old.worker self.new.worker) ⊎ ((self.old.waiting ≢ []) × WaitsOnce self.old.worker self.new.worker)) }
+        ensures stops { OnFalse result (Stops self.old.worker self.new.worker) }
+        ensures put { self.new.put ≡ self.old.put }
         ensures sends { (mail : MailNow) → IsSending mail self.old → IsSending mail self.new }
         ensures waits { (self.old.waiting ≡ []) ⊎ ((self.new.waiting ≡ self.old.waiting) × (self.new.worker.center.queued ≡ self.old.worker.center.queued)) }
     {

@@ -1,11 +1,13 @@
 //! The thread of a node's dispatcher, which takes what the node's event threads hand on.
 
 ghost use Rattle.std.specs.Prelude.{◌≡◌, ◌<◌, Bool, length};
-ghost use Rattle.m2_node.specs.Dispatching.{IsServing, LooksAt, LooksIntoAll, Serves};
+ghost use Rattle.m2_node.specs.Dispatching.{IsServing, LooksAt, LooksIntoAll, RunsServing, Serves, ServesOnce, StopsServing};
+ghost use Rattle.m2_node.specs.Watching.{UntilStop, told};
 
 use crate::dispatcher::NodeDispatcher;
 use crate::mails::Mail;
 use crate::node::Shares;
+use crate::watch::Watch;
 use crate::worker::{Signs, counted};
 use m2_dispatch::Parcel;
 use m2_edge::Clock;
@@ -18,8 +20,8 @@ use std::time::Duration;
 const WAIT_FOR_MAIL: u64 = 10;
 
 /// A node's dispatcher with what its thread knows: what it shares with the event threads of its node, the rights to take out of
-/// their mails, and the number of the first of these; whether it is on, which peers' posts count, and how far it has counted what
-/// it was called with. It can't be dropped, since letters can't.
+/// their mails, and the number of the first of these; whether it is on, which peers' posts count, how far it has counted what
+/// it was called with, and what it was told by the signs. It can't be dropped, since letters can't.
 pub(crate) struct Serving<'s> {
     pub(crate) dispatcher: NodeDispatcher<'s>,
     pub(crate) shares: &'s Shares,
@@ -28,6 +30,7 @@ pub(crate) struct Serving<'s> {
     pub(crate) is_started: bool,
     pub(crate) counts: Vec<bool>,
     pub(crate) told: usize,
+    pub(crate) watch: Watch,
 }
 
 impl<'s> Model for Serving<'s> {
@@ -35,7 +38,7 @@ impl<'s> Model for Serving<'s> {
 
     ghost Value = { ServingNow };
 
-    ghost view = { λ s. record { dispatcher = s.dispatcher; gets = s.gets.items; first = s.first } };
+    ghost view = { λ s. record { dispatcher = s.dispatcher; gets = s.gets.items; first = s.first; started = s.is_started; watch = s.watch } };
 }
 
 impl<'s> Serving<'s> {
@@ -50,6 +53,7 @@ impl<'s> Serving<'s> {
         requires { IsServing mails.now self.old }
         ensures served { IsServing mails.now self.new }
         ensures same { Serves self.old self.new }
+        ensures runs { RunsServing mails.now self.old self.new }
     {
         if self.is_started {
             self.serve_rounds(rt, mails, signs, clock);
@@ -61,14 +65,22 @@ impl<'s> Serving<'s> {
         requires { IsServing mails.now self.old }
         ensures served { IsServing mails.now self.new }
         ensures same { Serves self.old self.new }
+        ensures runs { UntilStop (ServesOnce mails.now) StopsServing self.old self.new }
     {
         'rounds: for _ in rt.forever() {
-            if signs.say_stop(clock.now()) {
+            if !self.ask(signs, clock) {
                 return;
             }
             self.serve_round(rt, mails, signs);
         }
         unreachable!()
+    }
+
+    /// Whether the signs say that it goes on.
+    fn ask<C: Clock>(&mut self, signs: &Signs, clock: &C) -> bool
+        ensures { self.new ≡ record self.old { watch = told result self.old.watch } }
+    {
+        self.watch.ask(signs, clock).is_some()
     }
 
     /// Takes a parcel out of each mail that holds one, and has it dispatched. Where none holds any the thread waits until something is
@@ -77,6 +89,7 @@ impl<'s> Serving<'s> {
         requires { IsServing mails.now self.old }
         ensures served { IsServing mails.now self.new }
         ensures same { Serves self.old self.new }
+        ensures watch { self.new.watch ≡ self.old.watch }
         ensures looks { (any : Bool) × LooksIntoAll mails.now any self.old self.new }
     {
         let shares = self.shares;
@@ -95,6 +108,7 @@ impl<'s> Serving<'s> {
         requires { IsServing mails.now self.old }
         ensures served { IsServing mails.now self.new }
         ensures same { Serves self.old self.new }
+        ensures watch { self.new.watch ≡ self.old.watch }
         ensures looks { LooksIntoAll mails.now result self.old self.new }
     {
         let mut any = false;
@@ -110,6 +124,7 @@ impl<'s> Serving<'s> {
         requires place { j < length self.old.gets }
         ensures served { IsServing mails.now self.new }
         ensures same { Serves self.old self.new }
+        ensures watch { self.new.watch ≡ self.old.watch }
         ensures looks { LooksAt mails.now j result self.old self.new }
     {
         if self.first >= mails.len() || j >= mails.len() - self.first {

@@ -7,10 +7,11 @@ ghost use Rattle.std.specs.List.{AllByRecursion};
 ghost use Rattle.m2_links_go_on.specs.ClusterTold.{OneByOne};
 ghost use Rattle.m2_dispatch.specs.Parcel.{AllOwned};
 ghost use Rattle.m2_node.specs.Nodes.{IsServedBy};
-ghost use Rattle.m2_node.specs.Dispatching.{IsServing, Serves};
-ghost use Rattle.m2_node.specs.Handing.{IsDispatched, IsSending, worker_of};
+ghost use Rattle.m2_node.specs.Dispatching.{IsServing, RunsServing, Serves};
+ghost use Rattle.m2_node.specs.Handing.{IsDispatched, IsSending, RunsSender};
 ghost use Rattle.m2_node.specs.Posts.{AreDispatched};
-ghost use Rattle.m2_node.specs.Working.{AllWork, AreGrouped, IsGroup, Works, center_of, latest, node_of, nodes_of_workers};
+ghost use Rattle.m2_node.specs.Working.{AreGrouped, IsGroup, center_of, latest, node_of, nodes_of_workers};
+ghost use Rattle.m2_node.specs.declared.end.RunEnd.{RunEnd};
 
 use crate::dispatcher::{NodeDispatcher, give_back};
 use crate::mails::Mail;
@@ -33,7 +34,8 @@ use std::sync::Wait;
 use std::thread;
 use std::thread::Threads;
 
-/// Runs all threads at once, until the signs say stop.
+/// Runs all threads at once, until the signs say stop: one of a node that is on did its work exactly as often as it was told to go on, and
+/// was told to stop at the end.
 pub(crate) fn work_all<R, P, C, G>(
     rt: &R,
     posts: &mut Posts<'_, P>,
@@ -49,7 +51,8 @@ where
     G: Gate,
     requires senders { SideBySide IsSending posts.old.mails.items posts.old.senders.items }
     requires servers { AllByRecursion (IsServing posts.old.mails.items) posts.old.servers.items }
-    ensures works { AllWork (C.may_give clock.now) (map worker_of posts.old.senders.items) (map worker_of posts.new.senders.items) }
+    ensures senders_run { OneByOne (RunsSender (RunEnd P.End) (C.may_give clock.now)) posts.old.senders.items posts.new.senders.items }
+    ensures servers_run { OneByOne (RunsServing posts.old.mails.items) posts.old.servers.items posts.new.servers.items }
     ensures mails { posts.new.mails.items ≡ posts.old.mails.items }
     ensures senders { SideBySide IsSending posts.new.mails.items posts.new.senders.items }
     ensures servers { AllByRecursion (IsServing posts.new.mails.items) posts.new.servers.items }
@@ -84,7 +87,8 @@ where
     G: Gate,
     requires senders { SideBySide IsSending mails.now senders.old }
     requires servers { AllByRecursion (IsServing mails.now) servers.old }
-    ensures works { AllWork (C.may_give clock.now) (map worker_of senders.old) (map worker_of senders.new) }
+    ensures senders_run { OneByOne (RunsSender (RunEnd P.End) (C.may_give clock.now)) senders.old senders.new }
+    ensures servers_run { OneByOne (RunsServing mails.now) servers.old servers.new }
     ensures senders { SideBySide IsSending mails.now senders.new }
     ensures servers { AllByRecursion (IsServing mails.now) servers.new }
     ensures serves { OneByOne Serves servers.old servers.new }
@@ -94,13 +98,14 @@ where
         senders,
         &|i, s: &mut Sender<'_, P>|
             requires { IfSome (slice_get mails.now i) (λ m. IsSending m s.now) }
-            ensures works { Works (C.may_give clock.entry.now) s.entry.now.worker s.exit.now.worker }
+            ensures runs { IfSome (slice_get mails.entry.now i) (λ _. RunsSender (RunEnd P.End) (C.may_give clock.entry.now) s.entry.now s.exit.now) }
             ensures sends { IfSome (slice_get mails.entry.now i) (λ m. IsSending m s.exit.now) }
         { s.work_by(rt, mails, i, signs, clock, gate) },
         &mut ||
             requires { AllByRecursion (IsServing mails.now) servers.now }
             ensures servers { AllByRecursion (IsServing mails.entry.now) servers.exit.now }
             ensures serves { OneByOne Serves servers.entry.now servers.exit.now }
+            ensures runs { OneByOne (RunsServing mails.entry.now) servers.entry.now servers.exit.now }
         { serve_each(rt, mails, signs, clock, servers) },
     );
 }
@@ -151,6 +156,7 @@ where
     requires { AllByRecursion (IsServing mails.now) servers.old }
     ensures servers { AllByRecursion (IsServing mails.now) servers.new }
     ensures serves { OneByOne Serves servers.old servers.new }
+    ensures runs { OneByOne (RunsServing mails.now) servers.old servers.new }
 {
     let count = servers.len();
     if count == 0 {
@@ -164,6 +170,7 @@ where
             requires { IsServing mails.now s.now }
             ensures served { IsServing mails.entry.now s.exit.now }
             ensures serves { Serves s.entry.now s.exit.now }
+            ensures runs { RunsServing mails.entry.now s.entry.now s.exit.now }
         { s.serve(rt, mails, signs, clock) },
     );
 }

@@ -1,20 +1,23 @@
 //! An event thread of a run: a center that takes turns until it is told to stop.
 
-ghost use Rattle.std.specs.Prelude.{◌≡◌, ◌⊎◌, true};
+ghost use Rattle.std.specs.Bool.{OnFalse, OnTrue};
+ghost use Rattle.std.specs.Prelude.{◌≡◌, ◌⊎◌, IfSome, drop, is_some, true};
 ghost use Rattle.m2_dispatch.specs.Heard.{heard_by};
 ghost use Rattle.m2_dispatch.specs.m2_shared.Place.{IsShared};
+ghost use Rattle.m2_edge.specs.Clock.{IsNextMoment};
 ghost use Rattle.m2_script.specs.m2_center.m2_turn.HandingOn.{HandsOn};
+ghost use Rattle.m2_node.specs.Counting.{count_in, count_on, does_count};
 ghost use Rattle.m2_node.specs.Nodes.{IsServedBy};
+ghost use Rattle.m2_node.specs.Watching.{new_watch, told};
 ghost use Rattle.m2_node.specs.Way.{PollsSo, StepsSo};
-ghost use Rattle.m2_node.specs.Working.{Works};
+ghost use Rattle.m2_node.specs.Working.{Stops, TurnsOnce, WaitsOnce};
 ghost use Rattle.m2_node.specs.declared.end.RunEnd.{RunEnd};
 
-use crate::end::RunEnd;
 use crate::node::{RunCenter, Shares, turn_center};
-use crate::way_laws::{polls_go_on, steps_go_on};
+use crate::watch::Watch;
 use m2_bytes::NoMemory;
 use m2_dispatch::{Logged, Parcel};
-use m2_edge::{Clock, Gate, next_moment};
+use m2_edge::{Clock, Gate};
 use m2_fabric::{End, Port};
 use m2_script::{CenterTurn, Due, Record};
 use std::collections::VecDeque;
@@ -31,7 +34,7 @@ const WAIT: u32 = 10;
 const WAIT_FOR_ROOM: u64 = 1;
 
 /// What the threads of a run tell one another, so that they know when to stop. No clause says anything of it: what came
-/// of the run is computed when they have ended.
+/// of the run is computed when they have ended. So signs that never say stop, or say so at once, break no clause.
 #[derive(Drop)]
 pub struct Signs {
     /// How many posts that count weren't dispatched yet.
@@ -75,8 +78,8 @@ impl Signs {
 }
 
 /// A center with what its thread knows: what it shares with the others of its node; its number among all threads, whether it is
-/// on, the moment of its last turn; which peers' posts count, and how far it has counted what its dispatcher of fast kinds was
-/// called with. It can't be dropped, since a center can't.
+/// on, the moment of its last turn; which peers' posts count, how far it has counted what its dispatcher of fast kinds was
+/// called with, and what it was told by the signs. It can't be dropped, since a center can't.
 pub struct Worker<'s, P: Port> {
     center: RunCenter<P>,
     shares: &'s Shares,
@@ -85,6 +88,7 @@ pub struct Worker<'s, P: Port> {
     moment: u64,
     counts: Vec<bool>,
     fast: usize,
+    watch: Watch,
     ghost numbers: { center.numbers.place ≡ shares.now.numbers.place },
     ghost throttle: { center.bytes.place ≡ shares.now.throttle.place },
 }
@@ -94,7 +98,7 @@ impl<'s, P: Port> Model for Worker<'s, P> {
 
     ghost Value = { WorkerNow };
 
-    ghost view = { λ w. record { center = w.center; numbers = w.shares.now.numbers; throttle = w.shares.now.throttle; started = w.is_started; moment = w.moment } };
+    ghost view = { λ w. record { center = w.center; numbers = w.shares.now.numbers; throttle = w.shares.now.throttle; started = w.is_started; moment = w.moment; watch = w.watch } };
 }
 
 impl<'s, P: Port> Worker<'s, P> {
@@ -108,7 +112,7 @@ impl<'s, P: Port> Worker<'s, P> {
         counts: Vec<bool>,
     ) -> Worker<'s, P>
         requires { IsServedBy shares.now.numbers shares.now.throttle center }
-        ensures { result ≡ record { center = center; numbers = shares.now.numbers; throttle = shares.now.throttle; started = is_started; moment = moment } }
+        ensures { result ≡ record { center = center; numbers = shares.now.numbers; throttle = shares.now.throttle; started = is_started; moment = moment; watch = new_watch } }
     {
         Worker {
             center,
@@ -118,6 +122,7 @@ impl<'s, P: Port> Worker<'s, P> {
             moment,
             counts,
             fast: 0,
+            watch: Watch::new(),
         }
     }
 
@@ -143,6 +148,7 @@ impl<'s, P: Port> Worker<'s, P> {
             moment: _,
             counts: _,
             fast: _,
+            watch: _,
         } = self;
         (center, shares)
     }
@@ -178,14 +184,13 @@ impl<'s, P: Port> Worker<'s, P> {
     ) -> bool
         requires started { self.old.started ≡ true }
         requires shared { IsShared self.old.throttle.place }
-        ensures works { Works (C.may_give clock.now) self.old self.new }
+        ensures turns { OnTrue result (TurnsOnce (RunEnd P.End) (C.may_give clock.now) self.old self.new) }
+        ensures stops { OnFalse result (Stops self.old self.new) }
         ensures on { HandsOn heard_by self.old.throttle.place self.old.center.queued.inner self.new.center.queued.inner into.old.items into.new.items }
     {
-        steps_go_on::<RunEnd<P::End>, C>();
-        let now = next_moment(clock, self.moment());
-        if signs.say_stop(now) {
+        let Some(now) = self.ask(signs, clock) else {
             return false;
-        }
+        };
         gate.pass(self.number());
         self.step(rt, seen, signs, now, into);
         true
@@ -201,15 +206,23 @@ impl<'s, P: Port> Worker<'s, P> {
         clock: &C,
     ) -> bool
         requires { self.old.started ≡ true }
-        ensures works { Works (C.may_give clock.now) self.old self.new }
+        ensures waits { OnTrue result (WaitsOnce self.old self.new) }
+        ensures stops { OnFalse result (Stops self.old self.new) }
         ensures same { self.new.center.queued ≡ self.old.center.queued }
     {
-        polls_go_on::<C>();
-        if signs.say_stop(clock.now()) {
+        let Some(_) = self.ask(signs, clock) else {
             return false;
-        }
-        let _ = self.center.poll(sleep_until_given(rt, self.shares, seen));
+        };
+        self.poll_when_given(rt, seen);
         true
+    }
+
+    /// Waits until something may have been given back, unless that was told since `seen`, and then hears what came at its port.
+    fn poll_when_given<R: Wait>(&mut self, rt: &R, seen: u64)
+        ensures same { self.new ≡ record self.old { center = self.new.center } }
+        ensures polls { PollsSo self.old.center self.new.center }
+    {
+        let _ = self.center.poll(sleep_until_given(rt, self.shares, seen));
     }
 
     /// Tells the dispatcher of its node that something was put into the mail.
@@ -221,6 +234,17 @@ impl<'s, P: Port> Worker<'s, P> {
     /// Its number among all threads.
     fn number(&self) -> u32 {
         self.number
+    }
+
+    /// The moment for a turn, unless the signs say stop.
+    fn ask<C: Clock>(&mut self, signs: &Signs, clock: &C) -> Option<u64>
+        ensures told { self.new ≡ record self.old { watch = told (is_some result) self.old.watch } }
+        ensures moment { IfSome result (λ now. IsNextMoment (C.may_give clock.now) self.old.moment now) }
+    {
+        let Some(now) = self.watch.ask(signs, clock) else {
+            return None;
+        };
+        Some(self.moment.max(now))
     }
 
     /// One turn at this moment, which the others are told; where it did nothing the thread waits.
@@ -237,6 +261,7 @@ impl<'s, P: Port> Worker<'s, P> {
         ensures started { self.new.started ≡ self.old.started }
         ensures numbers { self.new.numbers ≡ self.old.numbers }
         ensures throttle { self.new.throttle ≡ self.old.throttle }
+        ensures watch { self.new.watch ≡ self.old.watch }
         ensures steps { StepsSo (RunEnd P.End) now self.old.numbers self.old.throttle self.old.center self.new.center }
         ensures on { HandsOn heard_by self.old.throttle.place self.old.center.queued.inner self.new.center.queued.inner into.old.items into.new.items }
     {
@@ -300,18 +325,31 @@ fn wait_for_room<E: End>(records: &[Record<E>], now: u64) -> bool {
 }
 
 /// How many messages that count stand in a log from this place on.
-pub(crate) fn counted(log: &[Logged], from: usize, counts: &[bool]) -> u64 {
+pub(crate) fn counted(log: &[Logged], from: usize, counts: &[bool]) -> u64
+    ensures { result ≡ count_in counts.now (drop from log.now) }
+{
     let mut count: u64 = 0;
     'calls: for k in from..log.len() {
-        if is_counted(&log[k], counts) {
-            count = count.saturating_add(1);
-        }
+        count = count_call(count, is_counted(&log[k], counts));
     }
     count
 }
 
+/// So many, with one call more, which counts or not.
+fn count_call(count: u64, counts: bool) -> u64
+    ensures { result ≡ count_on counts count }
+{
+    if counts {
+        count.saturating_add(1)
+    } else {
+        count
+    }
+}
+
 /// Whether a call is a message of a node whose posts count.
-fn is_counted(call: &Logged, counts: &[bool]) -> bool {
+fn is_counted(call: &Logged, counts: &[bool]) -> bool
+    ensures { result ≡ does_count counts.now call.now }
+{
     match call {
         Logged::Message { peer, .. } => counts.get(*peer as usize).copied().unwrap_or(false),
         Logged::Reset { .. } => false,

@@ -4,6 +4,7 @@ use Rattle.m2_dispatch.specs.m2_shared.Place.{Place}
 use Rattle.m2_node.specs.Dispatching.{DispatcherNow, IsNewMail, ServingNow}
 use Rattle.m2_node.specs.Posts.{PostsNow}
 use Rattle.m2_node.specs.Sharing.{ShareNow}
+use Rattle.m2_node.specs.Watching.{WatchNow}
 use Rattle.m2_node.proofs.Places.{reverse_last}
 use Rattle.m2_node.proofs.Posting.{AddedSoFar, all_added, next_added, none_added, others_behind}
 use Rattle.m2_node.proofs.posts.add_posts.Goals as goal
@@ -63,13 +64,15 @@ returns-clause-adds g c =
     let ws = reverse c.args.workers.now.items in
     let gets = l.gets.items in
     let at : _ ≡ s.throttle.place = ap (λ (t : ShareNow). t.throttle.place) c.shares.view_is in
+    let new : DispatcherNow = record { place = s.throttle.place; log = []; lost = false } in
     let is = c.new-2.ensures ∙ ap (λ (q : Place). record { place = q; log = []; lost = false }) at in
     all_added x s x.centers l.counter old l.posts.senders.items l.posts.mails.items gets c.push_reserved-2.new.self.items (reverse l.workers.items) (take x.centers ws) (drop x.centers ws)
     c.centers-test.false c.requires.group l.invariant.added
     (c.push_reserved-2.ensures.items
-    ∙ ap (λ (vs : List ServingNow). vs ++ record { dispatcher = c.new-2.result; gets = gets; first = c.len-first.result } ∷ []) l.invariant.servers
-    ∙ ap (λ (d : DispatcherNow). old.servers ++ record { dispatcher = d; gets = gets; first = c.len-first.result } ∷ []) is
-    ∙ ap (λ (n : ℕ). old.servers ++ record { dispatcher = record { place = s.throttle.place; log = []; lost = false }; gets = gets; first = n } ∷ []) l.invariant.first)
+    ∙ ap (λ (vs : List ServingNow). vs ++ record { dispatcher = c.new-2.result; gets = gets; first = c.len-first.result; started = x.started; watch = c.new-3.result } ∷ []) l.invariant.servers
+    ∙ ap (λ (d : DispatcherNow). old.servers ++ record { dispatcher = d; gets = gets; first = c.len-first.result; started = x.started; watch = c.new-3.result } ∷ []) is
+    ∙ ap (λ (n : ℕ). old.servers ++ record { dispatcher = new; gets = gets; first = n; started = x.started; watch = c.new-3.result } ∷ []) l.invariant.first
+    ∙ ap (λ (w : WatchNow). old.servers ++ record { dispatcher = new; gets = gets; first = length old.mails; started = x.started; watch = w } ∷ []) c.new-3.ensures)
 
 pub returns-clause-left : goal.returns-clause-left
 returns-clause-left g c =

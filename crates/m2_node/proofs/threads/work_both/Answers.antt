@@ -2,10 +2,11 @@
 use Rattle.std.proofs.Common.{get_or, subst, sym}
 use Rattle.std.specs.Prelude.{slice_get, IfSome}
 use Rattle.m2_node.specs.Dispatching.{Mail}
-use Rattle.m2_node.specs.Handing.{IsSending, SenderNow, worker_of}
-use Rattle.m2_node.specs.Working.{Works}
-use Rattle.m2_node.proofs.SendersWork.{one_map, send_still, sends_at}
-use Rattle.m2_node.proofs.Workers.{none_left, one_by_one}
+use Rattle.m2_node.specs.Handing.{IsSending, RunsSender, SenderNow}
+use Rattle.m2_node.specs.declared.end.RunEnd.{RunEnd}
+use Rattle.m2_node.proofs.SendersWork.{send_still, sends_at}
+use Rattle.m2_node.proofs.Watched.{each_sent}
+use Rattle.m2_node.proofs.Workers.{none_left}
 use Rattle.m2_node.proofs.threads.work_both.Goals as goal
 
 -- What the threads are lent may be sent to them and shared; where a value ends nothing of it is left to them.
@@ -23,14 +24,16 @@ each_beside-requires-clause-accepts g c κs within =
       ),
     )
 
-pub returns-clause-works : goal.returns-clause-works
-returns-clause-works g c =
-    let works = Works (g.C.Clock.may_give c.args.clock.now) in
-    one_map worker_of works c.args.senders.now c.each_beside.new.items
-    (one_by_one (λ (s t : SenderNow). works s.worker t.worker) c.args.senders.now c.each_beside.new.items c.each_beside.auto.items
+pub returns-clause-senders_run : goal.returns-clause-senders_run
+returns-clause-senders_run g c =
+    let runs = RunsSender (RunEnd g.row.P-End.Denot) (g.C.Clock.may_give c.args.clock.now) in
+    let mails = c.args.mails.now in
+    each_sent runs mails c.args.senders.now c.each_beside.new.items c.each_beside.auto.items c.requires.senders
     (λ i d less.
     let at = (c.each_beside.ensures.each i d less).1 in
-    subst (λ (s : SenderNow). works s.worker (get_or c.each_beside.new.items i d).worker) at.argument_is (subst (λ (s : SenderNow). works at.argument.now.worker s.worker) at.left at.call.0)))
+    let after = get_or c.each_beside.new.items i d in
+    subst (λ (s : SenderNow). IfSome (slice_get mails i) (λ (_ : Mail). runs s after)) at.argument_is
+    (subst (λ (s : SenderNow). IfSome (slice_get mails i) (λ (_ : Mail). runs at.argument.now s)) at.left at.call.0))
 
 pub returns-clause-senders : goal.returns-clause-senders
 returns-clause-senders g c =

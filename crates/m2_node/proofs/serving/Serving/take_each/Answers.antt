@@ -1,17 +1,18 @@
 -- One mail more.
-use Rattle.std.proofs.Common.{◌≡◌, ℕ, ap, arith, length, subst}
+use Rattle.std.proofs.Common.{◌≡◌, ◌∙◌, ℕ, ap, arith, length, refl, subst}
 use Rattle.m2_node.specs.Dispatching.{LooksBefore, ServingNow}
 use Rattle.m2_node.proofs.Looked.{looks_before_none, looks_on}
 use Rattle.m2_node.proofs.TakenOut.{serves_not, serves_then}
 use Rattle.m2_node.proofs.serving.Serving.take_each.Goals as goal
 
 pub mails-init : goal.mails-init
-mails-init g c = record { served = c.requires; same = serves_not c.args.self.now; looks = looks_before_none c.args.mails.now c.args.self.now }
+mails-init g c = record { served = c.requires; same = serves_not c.args.self.now; watch = refl; looks = looks_before_none c.args.mails.now c.args.self.now }
 
 pub mails-preserved : goal.mails-preserved
 mails-preserved g c = record {
   served = c.take_one-any.ensures.served;
   same = serves_then c.args.self.now c.mails.self c.take_one-any.new.self c.mails.invariant.same c.take_one-any.ensures.same;
+  watch = c.take_one-any.ensures.watch ∙ c.mails.invariant.watch;
   looks = looks_on c.args.mails.now c.mails.j c.mails.any c.take_one-any.result c.args.self.now c.mails.self c.take_one-any.new.self c.mails.invariant.same.first c.mails.invariant.looks c.take_one-any.ensures.looks;
 }
 

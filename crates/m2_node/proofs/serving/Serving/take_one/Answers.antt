@@ -14,7 +14,7 @@ use Rattle.m2_node.proofs.serving.Serving.take_one.Goals as goal
 pub take-requires : goal.take-requires
 take-requires g c =
     let mails = c.args.mails.now in
-    let s : ServingNow = record { dispatcher = c.self.inside.dispatcher; gets = c.self.inside.gets.items; first = c.self.inside.first } in
+    let s : ServingNow = record { dispatcher = c.self.inside.dispatcher; gets = c.self.inside.gets.items; first = c.self.inside.first; started = c.self.inside.is_started; watch = c.self.inside.watch } in
     let serving : IsServing mails s = subst (IsServing mails) (sym c.self.view_is) c.requires.serves in
     let m = c.index-mails-self.result in
     let g_ = c.index_mut.result.now in
@@ -26,7 +26,7 @@ take-requires g c =
 pub dispatch-requires : goal.dispatch-requires
 dispatch-requires g c =
     let mails = c.args.mails.now in
-    let s : ServingNow = record { dispatcher = c.self.inside.dispatcher; gets = c.self.inside.gets.items; first = c.self.inside.first } in
+    let s : ServingNow = record { dispatcher = c.self.inside.dispatcher; gets = c.self.inside.gets.items; first = c.self.inside.first; started = c.self.inside.is_started; watch = c.self.inside.watch } in
     let serving : IsServing mails s = subst (IsServing mails) (sym c.self.view_is) c.requires.serves in
     let m = c.index-mails-self.result in
     let g_ = c.index_mut.result.now in
@@ -38,7 +38,7 @@ dispatch-requires g c =
 pub returns-in-None-clause-served : goal.returns-in-None-clause-served
 returns-in-None-clause-served g c =
     let mails = c.args.mails.now in
-    let s : ServingNow = record { dispatcher = c.self.inside.dispatcher; gets = c.self.inside.gets.items; first = c.self.inside.first } in
+    let s : ServingNow = record { dispatcher = c.self.inside.dispatcher; gets = c.self.inside.gets.items; first = c.self.inside.first; started = c.self.inside.is_started; watch = c.self.inside.watch } in
     let serving : IsServing mails s = subst (IsServing mails) (sym c.self.view_is) c.requires.serves in
     let m = c.index-mails-self.result in
     let g_ = c.index_mut.result.now in
@@ -50,7 +50,7 @@ returns-in-None-clause-served g c =
 pub returns-in-Some-clause-served : goal.returns-in-Some-clause-served
 returns-in-Some-clause-served g c =
     let mails = c.args.mails.now in
-    let s : ServingNow = record { dispatcher = c.self.inside.dispatcher; gets = c.self.inside.gets.items; first = c.self.inside.first } in
+    let s : ServingNow = record { dispatcher = c.self.inside.dispatcher; gets = c.self.inside.gets.items; first = c.self.inside.first; started = c.self.inside.is_started; watch = c.self.inside.watch } in
     let serving : IsServing mails s = subst (IsServing mails) (sym c.self.view_is) c.requires.serves in
     let m = c.index-mails-self.result in
     let g_ = c.index_mut.result.now in
@@ -62,20 +62,20 @@ returns-in-Some-clause-served g c =
 pub returns-in-None-clause-looks : goal.returns-in-None-clause-looks
 returns-in-None-clause-looks g c =
     let mails = c.args.mails.now in
-    let s : ServingNow = record { dispatcher = c.self.inside.dispatcher; gets = c.self.inside.gets.items; first = c.self.inside.first } in
+    let s : ServingNow = record { dispatcher = c.self.inside.dispatcher; gets = c.self.inside.gets.items; first = c.self.inside.first; started = c.self.inside.is_started; watch = c.self.inside.watch } in
     let g_ = c.index_mut.result.now in
     let within : c.args.j < length s.gets = subst (λ (t : ServingNow). c.args.j < length t.gets) (sym c.self.view_is) c.requires.place in
     let at_get : slice_get s.gets c.args.j ≡ Some g_ = slice_get-get_or s.gets c.args.j g_ within ∙ ap Some (sym c.index_mut.ensures.value) in
-    subst (λ (t : ServingNow). LooksAt mails c.args.j false t (record { dispatcher = s.dispatcher; gets = slice_set s.gets c.args.j c.take.new.pass; first = s.first })) c.self.view_is
+    subst (λ (t : ServingNow). LooksAt mails c.args.j false t (record s { gets = slice_set s.gets c.args.j c.take.new.pass })) c.self.view_is
     (looks_at mails s s.dispatcher c.args.j false g_ c.take.new.pass at_get (record { looked = c.take.ensures.looked; taken = λ is. absurd (cc is); none = λ _. c.in-None.ensures.none }))
 
 pub returns-in-Some-clause-looks : goal.returns-in-Some-clause-looks
 returns-in-Some-clause-looks g c =
     let mails = c.args.mails.now in
-    let s : ServingNow = record { dispatcher = c.self.inside.dispatcher; gets = c.self.inside.gets.items; first = c.self.inside.first } in
+    let s : ServingNow = record { dispatcher = c.self.inside.dispatcher; gets = c.self.inside.gets.items; first = c.self.inside.first; started = c.self.inside.is_started; watch = c.self.inside.watch } in
     let g_ = c.index_mut.result.now in
     let within : c.args.j < length s.gets = subst (λ (t : ServingNow). c.args.j < length t.gets) (sym c.self.view_is) c.requires.place in
     let at_get : slice_get s.gets c.args.j ≡ Some g_ = slice_get-get_or s.gets c.args.j g_ within ∙ ap Some (sym c.index_mut.ensures.value) in
-    subst (λ (t : ServingNow). LooksAt mails c.args.j true t (record { dispatcher = c.dispatch.new.self; gets = slice_set s.gets c.args.j c.take.new.pass; first = s.first })) c.self.view_is
+    subst (λ (t : ServingNow). LooksAt mails c.args.j true t (record s { dispatcher = c.dispatch.new.self; gets = slice_set s.gets c.args.j c.take.new.pass })) c.self.view_is
     (looks_at mails s c.dispatch.new.self c.args.j true g_ c.take.new.pass at_get
     (record { looked = c.take.ensures.looked; taken = λ _. (c.in-Some.parcel, c.in-Some.ensures.taken); none = λ is. absurd (cc is) }))
