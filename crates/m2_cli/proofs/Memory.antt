@@ -25,16 +25,16 @@ abbrev names_by : Option Form → Edge → List Word
 names_by (Some (run_of file)) after = names_in after.source.given
 names_by _ after = []
 
-left_by : (may_give : ℕ → Type 0) (old new : SeenFabric) (form : Option Form) (before after : Edge) → form ≢ None → after.source ≡ before.source → after.out ≡ before.out
+left_by : (may_give : ℕ → Type 0) (old new : SeenFabric) → new.faults ≡ old.faults → (form : Option Form) (before after : Edge) → form ≢ None → after.source ≡ before.source → after.out ≡ before.out
     → MatchForm form (IsOfNoForm NoMemory before after) (λ file. RunsFile file NoMemory before after)
     (λ file. RunsThreads may_give old new file NoMemory before after × (names_by form after ≡ names_in after.source.given)) (λ file. ListsFile file NoMemory before after)
     (λ posts seed. RunsLoad posts seed NoMemory before after)
-left_by may_give old new None before after some unread unprinted = absurd (some refl)
-left_by may_give old new (Some (sim_of file)) before after some unread unprinted =
+left_by may_give old new stays None before after some unread unprinted = absurd (some refl)
+left_by may_give old new stays (Some (sim_of file)) before after some unread unprinted =
     record { stands = inl (where_it_was before.source after.source unread); unprinted = unprinted }
-left_by may_give old new (Some (run_of file)) before after some unread unprinted =
-    (record { stands = inl (where_it_was before.source after.source unread); unprinted = unprinted }, refl)
-left_by may_give old new (Some (frames_of file)) before after some unread unprinted = record {
+left_by may_give old new stays (Some (run_of file)) before after some unread unprinted =
+    ((record { stands = inl (where_it_was before.source after.source unread); unprinted = unprinted }, inl stays), refl)
+left_by may_give old new stays (Some (frames_of file)) before after some unread unprinted = record {
   stands = inl (where_it_was before.source after.source unread);
   lists = (
     [],
@@ -47,9 +47,9 @@ left_by may_give old new (Some (frames_of file)) before after some unread unprin
     },
   );
 }
-left_by may_give old new (Some (load_of posts seed)) before after some unread unprinted = record { unread = unread; unprinted = unprinted }
+left_by may_give old new stays (Some (load_of posts seed)) before after some unread unprinted = record { unread = unread; unprinted = unprinted }
 
-pub memory_ends : (may_give : ℕ → Type 0) (old new : SeenFabric) (form : Option Form) (answered : Status) (before after : Edge) → form ≢ None → after.source ≡ before.source → after.out ≡ before.out
+pub memory_ends : (may_give : ℕ → Type 0) (old new : SeenFabric) → new.faults ≡ old.faults → (form : Option Form) (answered : Status) (before after : Edge) → form ≢ None → after.source ≡ before.source → after.out ≡ before.out
     → SaysStatus [] NoMemory answered before.err after.err → Ends may_give old new form answered before after
-memory_ends may_give old new form answered before after some unread unprinted said =
-    record { work = NoMemory; names = names_by form after; said = says_named (names_by form after) NoMemory answered before.err after.err refl said; left = left_by may_give old new form before after some unread unprinted }
+memory_ends may_give old new stays form answered before after some unread unprinted said =
+    record { work = NoMemory; names = names_by form after; said = says_named (names_by form after) NoMemory answered before.err after.err refl said; left = left_by may_give old new stays form before after some unread unprinted }

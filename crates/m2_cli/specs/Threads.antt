@@ -16,6 +16,7 @@ use Rattle.m2_scenario.specs.Text.{Word}
 use Rattle.m2_scenario.specs.Valid.{IsSound}
 use Rattle.m2_scenario.specs.declared.limits.TheConstants.{USUAL_LIMIT}
 use Rattle.m2_scenario.specs.declared.line.Line.{Line}
+use Rattle.m2_scenario.specs.declared.node.Node.{Node}
 use Rattle.m2_scenario_text.specs.Reading.{text_read}
 use Rattle.m2_weave.specs.declared.unfit.Unfit.{Unfit}
 use Rattle.m2_cli.specs.Edge.{Edge, IsReadWhole, OutFailed, SourceFailed, StandsSomewhere}
@@ -40,6 +41,14 @@ names_of (Err bad) = []
 
 abbrev pub names_in : List ℕ → List Word
 names_in bytes = names_of (threads_in bytes)
+
+-- its nodes
+abbrev pub nodes_of : Result Draft BadAt → List Node
+nodes_of (Ok d) = d.nodes
+nodes_of (Err bad) = []
+
+abbrev pub nodes_in : List ℕ → List Node
+nodes_in bytes = nodes_of (threads_in bytes)
 
 -- after how many milliseconds it stalls
 abbrev pub limit_of : Draft → ℕ
@@ -69,6 +78,10 @@ pub record IsUnheard (old new : SeenFabric) (d : Draft) (s : Status) (text : Lis
   pub fault : IsBindFault node d.nodes old new
   pub told : s ≡ status.BindFault node
   pub empty : text ≡ []
+
+-- the fabric counted no fault, unless a node couldn't listen
+abbrev pub CountsNoOther : List Node → (old new : SeenFabric) → Type 0
+CountsNoOther nodes old new = (new.faults ≡ old.faults) ⊎ ((node : ℕ) × IsBindFault node nodes old new)
 
 -- a link of the run has no history, and there is no text
 pub record IsUnwoven (may_give : ℕ → Type 0) (old new : SeenFabric) (d : Draft) (s : Status) (text : List ℕ) : Type 0 where
@@ -112,7 +125,8 @@ pub record IsPlayedInPart (may_give : ℕ → Type 0) (old new : SeenFabric) (fi
 -- What `run FILE` leaves, by what its work came to.
 -- Done, Stalled, BindFault, Unfit and BadScenario: the file was read whole, a run of its scenario's nodes (or its first bad line) comes
 -- to exactly that, and the report of that run was printed whole; with the last three it is empty. WriteFault: standard output failed,
--- and has a prefix of the report. ReadFault and NoMemory: nothing was printed. It never comes to Usage, Left or BadFrames.
+-- and has a prefix of the report. ReadFault and NoMemory: nothing was printed; with ReadFault the fabric is as it was, and with NoMemory it
+-- counted no fault, unless a node of the scenario couldn't listen. It never comes to Usage, Left or BadFrames.
 abbrev pub RunsThreads : (may_give : ℕ → Type 0) → (old new : SeenFabric) → List ℕ → Status → Edge → Edge → Type 0
 RunsThreads may_give old new file status.Done before after = IsPlayedToEnd may_give old new file status.Done before after
 RunsThreads may_give old new file (status.Stalled left) before after = IsPlayedToEnd may_give old new file (status.Stalled left) before after
@@ -123,7 +137,7 @@ RunsThreads may_give old new file (status.BadScenario line kind) before after =
     IsPlayedToEnd may_give old new file (status.BadScenario line kind) before after
 RunsThreads may_give old new file status.WriteFault before after = IsPlayedInPart may_give old new file before after
 RunsThreads may_give old new file status.ReadFault before after = SourceFailed before after × IsNotRun file before after × (new ≡ old)
-RunsThreads may_give old new file status.NoMemory before after = IsNotRun file before after
+RunsThreads may_give old new file status.NoMemory before after = IsNotRun file before after × CountsNoOther (nodes_in after.source.given) old new
 RunsThreads may_give old new file status.Usage before after = ⊥
 RunsThreads may_give old new file (status.Left count) before after = ⊥
 RunsThreads may_give old new file (status.BadFrames place fault) before after = ⊥
@@ -133,8 +147,9 @@ pub record IsThreadsPrintout (p : Printout) (may_give : ℕ → Type 0) (old new
   pub read : IsReadWhole file before after
   pub printout : IsPrintoutBy (names_in after.given) (ThreadsComeTo may_give old new after.given) p
 
--- The printout of a file. Err: the file was read in part, or not at all; where the source failed the fabric is as it was.
+-- The printout of a file. Err: the file was read in part, or not at all; where the source failed the fabric is as it was, and in want of memory
+-- it counted no fault, unless a node of the scenario couldn't listen.
 abbrev pub PreparesThreads : Result Printout ReadFault → (may_give : ℕ → Type 0) → (old new : SeenFabric) → List ℕ → SeenSource → SeenSource → Type 0
 PreparesThreads (Ok p) may_give old new file before after = IsThreadsPrintout p may_give old new file before after
 PreparesThreads (Err fault.Failed) may_give old new file before after = StandsSomewhere file before after × (new ≡ old)
-PreparesThreads (Err fault.NoMemory) may_give old new file before after = StandsSomewhere file before after
+PreparesThreads (Err fault.NoMemory) may_give old new file before after = StandsSomewhere file before after × CountsNoOther (nodes_in after.given) old new

@@ -1,8 +1,8 @@
 //! `run FILE`: the nodes of a scenario on threads.
 
-ghost use Rattle.std.specs.Prelude.{◌≡◌, true, IfOk, map, []};
+ghost use Rattle.std.specs.Prelude.{◌≡◌, true, IfErr, IfOk, map, []};
 ghost use Rattle.m2_cli.specs.Printout.{IsPrintout, IsPrintoutBy};
-ghost use Rattle.m2_cli.specs.Threads.{PlayComesTo, PreparesThreads, ThreadsComeTo, names_in, status_by_left};
+ghost use Rattle.m2_cli.specs.Threads.{CountsNoOther, PlayComesTo, PreparesThreads, ThreadsComeTo, names_in, nodes_in, status_by_left};
 ghost use Rattle.m2_cli.specs.declared.status.Status.TheVariants as status;
 ghost use Rattle.m2_edge.specs.Whole.{HasReadCause};
 ghost use Rattle.m2_scenario.specs.Draft.{Draft, IsMade};
@@ -69,7 +69,8 @@ where
     C: Clock,
     W: Words,
     G: Gate,
-    ensures { IfOk result (IsPrintoutBy (names_in bytes.now) (ThreadsComeTo (C.may_give clock.now) (F.seen fabric.old) (F.seen fabric.new) bytes.now)) }
+    ensures ok { IfOk result (IsPrintoutBy (names_in bytes.now) (ThreadsComeTo (C.may_give clock.now) (F.seen fabric.old) (F.seen fabric.new) bytes.now)) }
+    ensures err { IfErr result (λ _. CountsNoOther (nodes_in bytes.now) (F.seen fabric.old) (F.seen fabric.new)) }
 {
     match read(alloc, bytes, true) {
         Ok(scenario) => play_scenario(rt, alloc, scenario, fabric, clock, words, gate),
@@ -97,8 +98,9 @@ where
     W: Words,
     G: Gate,
     requires { IsValid scenario }
-    ensures { IfOk result (λ p. (d : Draft) → IsMade scenario d →
+    ensures ok { IfOk result (λ p. (d : Draft) → IsMade scenario d →
         IsPrintoutBy (map name_of d.nodes) (PlayComesTo (C.may_give clock.now) (F.seen fabric.old) (F.seen fabric.new) d) p) }
+    ensures err { IfErr result (λ _. CountsNoOther scenario.nodes.items (F.seen fabric.old) (F.seen fabric.new)) }
 {
     let Scenario {
         nodes,

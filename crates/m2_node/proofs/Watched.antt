@@ -1,11 +1,19 @@
 -- Steps of a thread, of which there are as many as it was told to go on.
-use Rattle.std.proofs.Common.{◌≡◌, ◌≢◌, ◌⊎◌, inl, inr, ◌∙◌, ℕ, zero, suc, ◌<◌, Bool, true, false, List, [], ◌∷◌, length, map, get_or, ap, arith, refl, subst, sym}
+use Rattle.std.proofs.Common.{◌≡◌, ◌≢◌, ◌⊎◌, inl, inr, ◌∙◌, ℕ, zero, suc, ◌<◌, Bool, true, false, List, [], ◌∷◌, ◌++◌, append_assoc, length, map, get_or, ap, arith, refl, subst, sym}
+use Rattle.std.specs.Bool.{OnFalse, OnTrue}
 use Rattle.std.specs.Prelude.{slice_get, IfSome}
+use Rattle.m2_dispatch.specs.Heard.{Heard, heard_by}
+use Rattle.m2_dispatch.specs.Parcel.{heard_for_all}
+use Rattle.m2_dispatch.specs.declared.parcel.Parcel.{Parcel}
+use Rattle.m2_dispatch.specs.m2_shared.Place.{IsShared, Place}
+use Rattle.m2_dispatch.specs.m2_shared.declared.ids.Ids.{Ids}
 use Rattle.m2_dispatch.specs.m2_shared.Numbers.{SeenNumbers}
 use Rattle.m2_dispatch.specs.m2_shared.Throttle.{SeenThrottle}
 use Rattle.m2_edge.specs.Clock.{IsNextMoment}
 use Rattle.m2_links_go_on.specs.ClusterTold.{OneByOne}
-use Rattle.m2_mailbox.specs.Passes.{WasFull}
+use Rattle.m2_mailbox.specs.Passes.{IsPutPassOf, WasFull, parts_of, puts_of}
+use Rattle.m2_mailbox.specs.declared.passes.PutPass.{PutPass}
+use Rattle.m2_script.specs.m2_center.m2_turn.HandingOn.{HandsOn}
 use Rattle.m2_node.specs.Dispatching.{IsServing, LooksIntoAll, Mail, Serves, ServesOnce, ServingNow, StopsServing}
 use Rattle.m2_node.specs.Handing.{HasFilled, IsSending, RunsSender, SenderNow, SendsOnce, worker_of}
 use Rattle.m2_node.specs.Lists.{SideBySide}
@@ -13,6 +21,7 @@ use Rattle.m2_node.specs.Watching.{RunsSo, Steps, UntilStop, WatchNow, told}
 use Rattle.m2_node.specs.Way.{PollsSo, StepsSo}
 use Rattle.m2_node.specs.WayLaws.{PollsGoOn, StepsGoOn}
 use Rattle.m2_node.specs.Working.{AllWork, Runs, Stops, TurnsOnce, WaitsOnce, WorkerNow, Works}
+use Rattle.m2_node.proofs.Dispatched.{heard_for_both}
 use Rattle.m2_node.proofs.SendersWork.{one_map}
 use Rattle.m2_node.proofs.Way.{works_all}
 
@@ -45,7 +54,30 @@ waited old mid new asked same polls = record {
   same = same ∙ ap {A = WorkerNow} (λ w. record w { center = new.center }) asked;
 }
 
+-- either way it shares what it did
+pub kept_throttle : (E : Type 0) (may_give : ℕ → Type 0) (b : Bool) (old new : WorkerNow) → OnTrue b (TurnsOnce E may_give old new) → OnFalse b (Stops old new) → new.throttle ≡ old.throttle
+kept_throttle E may_give true old new turns stops = ap (λ (w : WorkerNow). w.throttle) turns.same
+kept_throttle E may_give false old new turns stops = ap (λ (w : WorkerNow). w.throttle) stops
+
 -- ---- a worker with its mail
+
+-- what it hands on in a turn waits for the mail
+pub sends_on : (mail : Mail) (place : Place) (old new : SenderNow) → new.put ≡ old.put → new.worker.throttle ≡ old.worker.throttle →
+    HandsOn heard_by place old.worker.center.queued.inner new.worker.center.queued.inner old.waiting new.waiting → IsSending mail old → IsSending mail new
+sends_on mail place old new put throttle on s = record {
+  owner = s.owner ∙ ap (λ (t : SeenThrottle). t.place) (sym throttle);
+  shared = subst (λ (t : SeenThrottle). IsShared t.place) (sym throttle) s.shared;
+  ours = subst (λ (p : PutPass Parcel Ids). IsPutPassOf mail p) (sym put) s.ours;
+  whole = ap (λ (p : PutPass Parcel Ids). parts_of p) put ∙ s.whole;
+  room = s.room;
+  own = s.own;
+  puts = ap (λ (p : PutPass Parcel Ids). puts_of p) put ∙ s.puts;
+  handed =
+      on.heard_more
+      ∙ ap (λ (hs : List Heard). hs ++ heard_for_all on.more) s.handed
+      ∙ sym (heard_for_both (s.own ++ old.waiting) on.more)
+      ∙ ap heard_for_all (append_assoc s.own old.waiting on.more ∙ ap (λ (ps : List Parcel). s.own ++ ps) (sym on.last));
+}
 
 filled : (mail : Mail) (s : SenderNow) → IsSending mail s → WasFull mail s.put → HasFilled s.put
 filled mail s sends full =
@@ -93,7 +125,7 @@ module _ {X Y : Type 0} (f : X → Y) (step stop : X → X → Type 0) (step_so 
   -- what is so of steps is so of what stands for what they change
   runs_map : (b : Bool) (x y : X) → RunsSo step stop b x y → RunsSo step_so stop_so b (f x) (f y)
   runs_map b x y r = record {
-    on = λ is. (let u = r.on is in record { count = u.count; last = f u.last; steps = steps_map u.count x u.last u.steps; stop = stops_too u.last y u.stop });
+    on = λ is. (let u = r.on is in record { count = u.count; last = f u.last; steps = steps_map u.count x u.last u.steps; stopped = stops_too u.last y u.stopped });
     off = λ is. ap f (r.off is);
   }
 

@@ -186,5 +186,5 @@ module _ (E C : Type 0) (may_give : C → ℕ → Type 0) (steps : StepsGoOn E C
       go : (b : Bool) → old.started ≡ b → Works (may_give clock) old new
       go true on =
           let u = r.on on in
-          works_then (may_give clock) old u.last new (works_often u.count old u.last on u.steps) (works_stopping (may_give clock) u.last new u.stop)
+          works_then (may_give clock) old u.last new (works_often u.count old u.last on u.steps) (works_stopping (may_give clock) u.last new u.stopped)
       go false off = subst (λ (w : WorkerNow). Works (may_give clock) old w) (sym (r.off off)) (works_not (may_give clock) old)

@@ -30,7 +30,7 @@ pub record UntilStop {X : Type 0} (step stop : X → X → Type 0) (old new : X)
   pub count : ℕ
   pub last : X
   pub steps : Steps step count old last
-  pub stop : stop last new
+  pub stopped : stop last new
 
 -- Of a node that is on it has taken steps until it was told to stop; of one that is off it has done nothing.
 pub record RunsSo {X : Type 0} (step stop : X → X → Type 0) (started : Bool) (old new : X) : Type 0 where

@@ -8,4 +8,4 @@ pub returns-in-Err-clause-ends : goal.returns-in-Err-clause-ends
 returns-in-Err-clause-ends g c =
     let before : Edge = edge (g.S.Source.seen c.args.src.now) (g.O.Sink.seen c.args.out.now) (g.E.Sink.seen c.args.err.now) in
     let after : Edge = edge (g.S.Source.seen c.args.src.now) (g.O.Sink.seen c.args.out.now) (g.E.Sink.seen c.say_fixed-in-Err.new.err) in
-    memory_ends (g.C.Clock.may_give c.args.clock.now) (g.F.Fabric.seen c.args.fabric.now) (g.F.Fabric.seen c.args.fabric.now) (form_in (map string_bytes c.args.args.now)) c.say_fixed-in-Err.result before after c.in-Err.ensures.lacks refl refl c.say_fixed-in-Err.ensures.says
+    memory_ends (g.C.Clock.may_give c.args.clock.now) (g.F.Fabric.seen c.args.fabric.now) (g.F.Fabric.seen c.args.fabric.now) refl (form_in (map string_bytes c.args.args.now)) c.say_fixed-in-Err.result before after c.in-Err.ensures.lacks refl refl c.say_fixed-in-Err.ensures.says

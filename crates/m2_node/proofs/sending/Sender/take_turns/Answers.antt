@@ -31,5 +31,5 @@ returns-then-not-go_on-clause-runs g c =
       count = l.invariant.steps.0;
       last = l.self;
       steps = l.invariant.steps.1;
-      stop = subst (λ (w : WorkerNow). Stops w c.go_on.new.self.worker) c.post.ensures.worker (OnFalse_at c.if-not-go_on.true c.go_on.ensures.stops);
+      stopped = subst (λ (w : WorkerNow). Stops w c.go_on.new.self.worker) c.post.ensures.worker (OnFalse_at c.if-not-go_on.true c.go_on.ensures.stops);
     }

@@ -40,5 +40,5 @@ returns-then-not-ask-clause-runs g c =
       count = l.invariant.steps.0;
       last = l.self;
       steps = l.invariant.steps.1;
-      stop = subst (λ (b : Bool). new ≡ record l.self { watch = told b l.self.watch }) c.if-not-ask.true c.ask.ensures;
+      stopped = subst (λ (b : Bool). new ≡ record l.self { watch = told b l.self.watch }) c.if-not-ask.true c.ask.ensures;
     }
