@@ -120,7 +120,7 @@ module _ {X Y : Type 0} (f : X → Y) (step stop : X → X → Type 0) (step_so 
     (stops_too : (x y : X) → stop x y → stop_so (f x) (f y)) where
   steps_map : (count : ℕ) (x y : X) → Steps step count x y → Steps step_so count (f x) (f y)
   steps_map zero x y same = ap f same
-  steps_map (suc n) x y s = (f s.0, steps_map n s.0 y s.1, steps_too s.0 y s.2)
+  steps_map (suc n) x y s = (f s.0, steps_map n x s.0 s.1, steps_too s.0 y s.2)
 
   -- what is so of steps is so of what stands for what they change
   runs_map : (b : Bool) (x y : X) → RunsSo step stop b x y → RunsSo step_so stop_so b (f x) (f y)

@@ -11,13 +11,13 @@
 //! takes apart at the end ([`RunNode::into_parts`]). The port of a thread is a [`RunPort`]: one of the fabric, whose
 //! ends ([`RunEnd`]) break where lines cut them, or that of a node that is off.
 //!
-//! `specs/Begins.antt` says what nodes are before their first turn, `specs/Working.antt` what the workers of nodes
-//! do, `specs/Handing.antt` what they hand on, and `specs/Way.antt` what a node is at a moment and how it goes on:
-//! [`turns_go_on`], [`polls_go_on`] and [`waiting_goes_on`] are its laws. It passes on what crates above name of
-//! centers ([`Record`], [`CenterRest`], [`NodeShared`], [`Passes`]), of scripts ([`cuts_of`], [`is_down_towards`],
-//! [`messages_of`], [`posts_towards`], [`sum`]) and of links ([`weave`], [`Side`], [`WeaveFault`], [`are_of_link`]),
-//! and the laws of what begins and ends ([`new_records_can_begin`], [`centers_begin_on_course`], [`begin_logged`],
-//! [`begin_of_peers`], [`centers_run_their_course`]).
+//! `specs/Begins.antt` says what nodes are before their first turn, `specs/Working.antt` what the workers of nodes do,
+//! `specs/Watching.antt` how often, `specs/Handing.antt` what they hand on, and `specs/Way.antt` what a node is at a
+//! moment and how it goes on: [`turns_go_on`], [`polls_go_on`] and [`waiting_goes_on`] are its laws. It passes on what
+//! crates above name of centers ([`Record`], [`CenterRest`], [`NodeShared`], [`Passes`]), of scripts ([`cuts_of`],
+//! [`is_down_towards`], [`messages_of`], [`posts_towards`], [`sum`]) and of links ([`weave`], [`Side`], [`WeaveFault`],
+//! [`are_of_link`]), and the laws of what begins and ends ([`new_records_can_begin`], [`centers_begin_on_course`],
+//! [`begin_logged`], [`begin_of_peers`], [`centers_run_their_course`]).
 //!
 //! What it isn't: a run (`m2_run`), which has nodes listen, goes on with them on its own thread until all is still,
 //! and tells what came of it.

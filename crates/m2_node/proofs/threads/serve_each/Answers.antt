@@ -9,7 +9,7 @@ returns-clause-serves g c =
     one_by_one Serves c.args.servers.now c.for_each_mut.new.s c.for_each_mut.auto.s
     (λ i d less.
     let at = (c.for_each_mut.ensures i d less).1 in
-    subst (λ (v : ServingNow). Serves v (get_or c.for_each_mut.new.s i d)) at.argument_is (subst (λ (v : ServingNow). Serves at.argument.now v) at.left at.call.1))
+    subst (λ (v : ServingNow). Serves v (get_or c.for_each_mut.new.s i d)) at.argument_is (subst (λ (v : ServingNow). Serves at.argument.now v) at.left at.call.1.0))
 
 pub returns-clause-runs : goal.returns-clause-runs
 returns-clause-runs g c =
@@ -17,4 +17,4 @@ returns-clause-runs g c =
     one_by_one runs c.args.servers.now c.for_each_mut.new.s c.for_each_mut.auto.s
     (λ i d less.
     let at = (c.for_each_mut.ensures i d less).1 in
-    subst (λ (v : ServingNow). runs v (get_or c.for_each_mut.new.s i d)) at.argument_is (subst (λ (v : ServingNow). runs at.argument.now v) at.left at.call.2))
+    subst (λ (v : ServingNow). runs v (get_or c.for_each_mut.new.s i d)) at.argument_is (subst (λ (v : ServingNow). runs at.argument.now v) at.left at.call.1.1))

@@ -6,10 +6,10 @@ use Rattle.m2_node.proofs.Counted.{all_counted, none_counted, one_counted, still
 use Rattle.m2_node.proofs.worker.counted.Goals as goal
 
 pub calls-init : goal.calls-init
-calls-init g c = record { counted = none_counted (length (filter (does_count c.args.counts.now) (drop c.args.from c.args.log.now))) most; below = omega arith }
+calls-init c = record { counted = none_counted (length (filter (does_count c.args.counts.now) (drop c.args.from c.args.log.now))) most; below = omega arith }
 
 pub calls-preserved : goal.calls-preserved
-calls-preserved g c =
+calls-preserved c =
     let l = c.calls in
     let log = c.args.log.now in
     let counts = c.args.counts.now in
@@ -20,7 +20,7 @@ calls-preserved g c =
     }
 
 pub returns : goal.returns
-returns g c =
+returns c =
     let l = c.calls in
     let log = c.args.log.now in
     let counts = c.args.counts.now in

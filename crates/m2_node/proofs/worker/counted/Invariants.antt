@@ -5,7 +5,7 @@ use Rattle.m2_node.proofs.Counted.{CountedSoFar}
 use Rattle.m2_node.proofs.worker.counted.Given as goal
 
 abbrev pub invariant-calls : goal.invariant-calls
-invariant-calls g l = record {
+invariant-calls l = record {
   counted : CountedSoFar l.counts l.log l.k l.count (count_in l.counts (drop l.fn.from l.log));
   below : l.count ≤ most;
 }
