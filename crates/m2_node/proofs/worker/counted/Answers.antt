@@ -15,8 +15,8 @@ calls-preserved c =
     let counts = c.args.counts.now in
     let x = c.index-log-k.result in
     record {
-      counted = one_counted counts log l.k l.count (count_in counts (drop c.args.from log)) c.count_call.result x c.calls-test.true c.index-log-k.is (c.count_call.ensures ∙ ap (λ b. count_on b l.count) c.is_counted.ensures) l.invariant.counted;
-      below = still_most (does_count counts x) l.count c.count_call.result (c.count_call.ensures ∙ ap (λ b. count_on b l.count) c.is_counted.ensures) l.invariant.below;
+      counted = one_counted counts log l.k l.count (count_in counts (drop c.args.from log)) c.count_call-count.result x c.calls-test.true c.index-log-k.is (c.count_call-count.ensures ∙ ap (λ b. count_on b l.count) c.is_counted.ensures) l.invariant.counted;
+      below = still_most (does_count counts x) l.count c.count_call-count.result (c.count_call-count.ensures ∙ ap (λ b. count_on b l.count) c.is_counted.ensures) l.invariant.below;
     }
 
 pub returns : goal.returns
