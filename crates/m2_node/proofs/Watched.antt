@@ -90,12 +90,12 @@ pub sent : (E : Type 0) (may_give : ℕ → Type 0) (mail : Mail) (old mid new :
 sent E may_give mail old mid new worker sends full put goes = elim goes [
   | inl turns ↦ inl (subst (λ (w : WorkerNow). TurnsOnce E may_give w new.worker) worker turns.1)
   | inr waits ↦ inr (
-      subst HasFilled (sym put) (filled mail mid sends (elim full [
-        | inl none ↦ absurd (waits.0 none)
-        | inr was ↦ was
-      ])),
-      subst (λ (w : WorkerNow). WaitsOnce w new.worker) worker waits.1,
-    )
+    subst HasFilled (sym put) (filled mail mid sends (elim full [
+      | inl none ↦ absurd (waits.0 none)
+      | inr was ↦ was
+    ])),
+    subst (λ (w : WorkerNow). WaitsOnce w new.worker) worker waits.1,
+  )
 ]
 
 pub still_started : (E : Type 0) (may_give : ℕ → Type 0) (old new : SenderNow) → SendsOnce E may_give old new → new.worker.started ≡ old.worker.started

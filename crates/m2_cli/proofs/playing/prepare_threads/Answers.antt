@@ -14,7 +14,7 @@ returns-in_err-printout-clause-prepares g c =
     let src : SeenSource = g.S.Source.seen c.read_whole.new.src in
     let read = c.in_ok-bytes.ensures.reads in
     let counts = subst (λ (bytes : List ℕ). CountsNoOther (nodes_in bytes) (g.F.Fabric.seen c.args.fabric.now) (g.F.Fabric.seen c.play_bytes.new.fabric)) (c.as_slice.ensures ∙ read.0.given)
-        c.in_err-printout.ensures.err in
+    c.in_err-printout.ensures.err in
     rw (p.1 ∙ ap (λ (e : ReadFault). Err e) p.2) (inr read.1, counts)
 
 pub returns-clause-prepares : goal.returns-clause-prepares
