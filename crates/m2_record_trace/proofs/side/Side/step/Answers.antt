@@ -8,7 +8,7 @@ pub returns-then-is_err : goal.returns-then-is_err
 returns-then-is_err c =
     let bytes : Throttled = record { throttle = c.self.inside.throttle; before = c.self.inside.take_pass; behind = c.self.inside.take_pass } in
     let numbers : Counted = record { place = c.self.inside.numbers.place; before = c.self.inside.number_pass; behind = c.self.inside.number_pass } in
-    rw (← c.self.view_is) (no_step c.args.now bytes numbers _ _ refl refl (rw (c.room_to_log.ensures.log, c.room_to_log.ensures.fast) refl))
+    rw (← c.self.view_is) (no_step c.args.now bytes numbers _ _ refl refl refl (rw (c.room_to_log.ensures.log, c.room_to_log.ensures.fast) refl))
 
 pub returns : goal.returns
 returns c = rw (← c.self.view_is) (record {
