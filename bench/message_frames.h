@@ -19,6 +19,18 @@ static void make_tables(void) {
         for (int i = 0; i < 256; i++) table[t][i] = (table[t - 1][i] >> 8) ^ table[0][table[t - 1][i] & 0xff];
 }
 
+#ifdef HARDWARE_CRC /* by the processor's own instruction (-msse4.2) */
+static uint32_t crc32c(uint32_t crc, const uint8_t *bytes, size_t count) {
+    uint64_t wide = crc;
+    for (; count >= 8; bytes += 8, count -= 8) {
+        uint64_t word;
+        memcpy(&word, bytes, 8);
+        wide = __builtin_ia32_crc32di(wide, word);
+    }
+    for (size_t i = 0; i < count; i++) wide = __builtin_ia32_crc32qi((uint32_t)wide, bytes[i]);
+    return (uint32_t)wide;
+}
+#else
 static uint32_t crc32c(uint32_t crc, const uint8_t *bytes, size_t count) {
     for (; count >= 8; bytes += 8, count -= 8) {
         uint64_t word;
@@ -31,6 +43,7 @@ static uint32_t crc32c(uint32_t crc, const uint8_t *bytes, size_t count) {
     for (size_t i = 0; i < count; i++) crc = (crc >> 8) ^ table[0][(crc ^ bytes[i]) & 0xff];
     return crc;
 }
+#endif
 
 struct buffer {
     uint8_t *bytes;
@@ -64,11 +77,18 @@ struct message {
     size_t size;
 };
 
+#ifdef SHARED /* a message keeps no bytes of its own, but points to where they are */
+static uint8_t *copy_of(const uint8_t *bytes, size_t size) {
+    (void)size;
+    return (uint8_t *)bytes;
+}
+#else
 static uint8_t *copy_of(const uint8_t *bytes, size_t size) {
     uint8_t *copy = size ? malloc(size) : NULL;
     if (size) memcpy(copy, bytes, size);
     return copy;
 }
+#endif
 
 static void write_frame(struct buffer *out, uint64_t seq, const uint8_t *data, size_t size) {
     uint8_t preamble[PREAMBLE] = {17, size ? 4 : 1}, header[HEADER] = {0}, epilogue[EPILOGUE] = {0x0e};
