@@ -1,0 +1,60 @@
+#!/usr/bin/env python3
+"""Copies the libraries that the lanes of FOLDER (lane.py) build into INTO/crates, with the sources that they were built of, as soon as
+they are there, so that BUILT=INTO checks/only.py and checks/edits.py can stand on them. It goes on until it is ended.
+
+    copy_built.py FOLDER INTO
+
+A running `rt ci` works in /tmp/rt-copy-PID-.., which is gone when it ends."""
+import pathlib
+import shutil
+import sys
+import time
+
+
+def files(top):
+    """What tells the files below a folder from others: names, sizes and times."""
+    return sorted((str(it.relative_to(top)), it.stat().st_size, it.stat().st_mtime) for it in top.rglob('*') if it.is_file())
+
+
+def is_of(folder, copy):
+    """Whether a lane's call of `rt ci` works in that copy."""
+    pid = copy.name.split('-')[2]
+    parent = pathlib.Path(f'/proc/{pid}/stat').read_text().rpartition(')')[2].split()[1]
+    return folder in pathlib.Path(f'/proc/{parent}/cwd').resolve().parents
+
+
+def copy(crate, into):
+    """Copies a built crate, unless it changed meanwhile; whether it did."""
+    built, room = crate / 'out' / 'rlib', into / f'{crate.name}.new'
+    seen = files(built)
+    shutil.rmtree(room, ignore_errors=True)
+    shutil.copytree(built, room / 'out' / 'rlib')
+    for part in ('src', 'specs', 'proofs'):
+        if (crate / part).is_dir():
+            shutil.copytree(crate / part, room / part)
+    if files(built) != seen or [it[:2] for it in files(room / 'out' / 'rlib')] != [it[:2] for it in seen]:
+        return False
+    shutil.rmtree(into / crate.name, ignore_errors=True)
+    room.rename(into / crate.name)
+    return True
+
+
+def main(folder, into):
+    copied = {}
+    into.mkdir(parents=True, exist_ok=True)
+    while True:
+        for built in pathlib.Path('/tmp').glob('rt-copy-*-*/repo/crates/*/out/rlib'):
+            crate = built.parent.parent
+            try:
+                seen = files(built)
+                quiet = seen and time.time() - max(it[2] for it in seen) > 3
+                if quiet and copied.get(crate.name) != seen and is_of(folder, crate.parent.parent.parent) and copy(crate, into):
+                    copied[crate.name] = seen
+            except OSError:
+                continue  # the call has ended, and its copy is gone
+        time.sleep(2)
+
+
+if len(sys.argv) != 3:
+    sys.exit(__doc__)
+main(pathlib.Path(sys.argv[1]).resolve(), pathlib.Path(sys.argv[2]) / 'crates')
