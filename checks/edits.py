@@ -185,7 +185,10 @@ def try_together(room, crate, edits, uses):
     proved, said = check(room, crate, uses, set().union(*chosen.values()))
     written(room, was)
     if proved is None:
-        return [], later, alone + list(chosen)
+        # Those of the files that are at fault by themselves, and the others once more; or all, where it doesn't say which.
+        at_fault = set(re.findall(r'^(\S+\.rt):\d+:\d+: error', said, re.M))
+        bad = [edit for edit in chosen if at_fault & {path for path, _, _ in pairs(edit)}] or list(chosen)
+        return [], later + [edit for edit in chosen if edit not in bad], alone + bad
     refused = []
     for edit, names in chosen.items():
         reasons = {it[1]: it[2] for it in re.finditer(r'^fn (\S+): (?:not proved|no proof)(.*)', said, re.M)}
