@@ -114,25 +114,32 @@ def applied(room, edit):
 
 
 def function(text, at):
-    """The function of a file that holds this place of its text, by its path below the module; nothing where none does."""
+    """The function of a file that holds this place of its text, and the type whose it is, if it is one's; nothing where none does."""
     names = [it[1] for it in re.finditer(r'^ *(?:pub(?:\([a-z]+\))? )?(?:ghost )?(?:const )?fn (\w+)', text[:at], re.M)]
     blocks = list(re.finditer(r'^(?:impl\b(?:<.*?>)? (?:(?P<trait>\w+)(?:<.*?>)? for )?(?P<type>\w+)|\})', text[:at], re.M))
     if not names:
         return None
     if not blocks or blocks[-1]['type'] is None:
-        return names[-1]
-    return f"{blocks[-1]['type']}{blocks[-1]['trait'] or ''}::{names[-1]}"
+        return None, names[-1]
+    return blocks[-1]['type'], f"{blocks[-1]['type']}{blocks[-1]['trait'] or ''}::{names[-1]}"
 
 
-def functions(room, crate, edit):
-    """The functions whose bodies an edit changes, by their paths."""
+def home(room, kind, path):
+    """The module that declares this type, of whose path its functions are named, or else that of the file."""
+    declared = re.compile(rf'^(?:pub(?:\([a-z]+\))? )?(?:struct|enum) {kind}\b', re.M)
+    return module(next((it.relative_to(room) for it in sorted((room / 'src').rglob('*.rt')) if declared.search(it.read_text())), path))
+
+
+def functions(room, edit):
+    """The functions whose bodies an edit changes, by their paths; nothing where it changes what is outside of all."""
     found = set()
     for path, old, _ in pairs(edit):
         text = (room / path).read_text()
-        name = function(text, text.index(old))
-        if name is None:
+        held = function(text, text.index(old))
+        if held is None:
             return None
-        found.add('::'.join(it for it in (module(path), name) if it))
+        kind, name = held
+        found.add('::'.join(it for it in (home(room, kind, path) if kind else module(path), name) if it))
     return found
 
 
@@ -170,7 +177,7 @@ def try_together(room, crate, edits, uses):
     was, changes, chosen, alone, later = {}, {}, {}, [], []
     for edit in edits:
         changed, bad = applied(room, edit)
-        names = None if bad else functions(room, crate, edit)
+        names = None if bad else functions(room, edit)
         if names is None and not (changed is None and changes):
             alone.append(edit)
         elif names is None or names & set().union(*chosen.values()):
