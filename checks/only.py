@@ -6,9 +6,10 @@
     BUILT=CLONE checks/only.py ..            a library that rt ci or rt lib has built in that clone, of the sources that stand here,
                                              is taken as it is built, which is faster
 
-The flags are rattle's, as --allow-holes. What the functions call is checked too, in the crates below as well. A clause that cites
-what another crate's specs pass on is refused with contract-cites-code in this way of checking alone, and the function is called
-not proved for that: look past these at other errors and at goals. It is no verdict, and keeps nothing."""
+The flags are rattle's: --allow-holes, --incremental=FOLDER, which keeps what is checked between calls, --jobs=N. What the functions
+call is checked too, in the crates below as well. A clause that cites what another crate's specs pass on is refused with
+contract-cites-code in this way of checking alone, and the function is called not proved for that: look past these at other errors
+and at goals. It is no verdict."""
 import filecmp
 import os
 import pathlib
@@ -51,7 +52,8 @@ def main(crate, words):
     said += [f'-Ldependency={room}' for room in (f'{edits.KIT}/rlibs', *done.values())]
     said += [f'--lib={name}:{",".join([*uses[name], "std"])}=crates/{name}/src/lib.rt' for name in uses if name in read]
     said += [f'--antt-project={edits.KIT}/rattle/logic/antt-project.json', f'--logic-built={edits.KIT}/logic_built', f'--links={crate}=']
-    said += ['--jobs=1', *(it if it.startswith('-') else f'--only={it}' for it in words)]
+    said += ['--jobs=1'] * (not any(it.startswith('--jobs') for it in words))
+    said += [it if it.startswith('-') else f'--only={it}' for it in words]
     return subprocess.run(said, cwd=edits.TOP).returncode
 
 

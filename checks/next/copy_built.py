@@ -20,19 +20,18 @@ def is_of(folder, copy):
     """Whether a lane's call of `rt ci` works in that copy."""
     pid = copy.name.split('-')[2]
     parent = pathlib.Path(f'/proc/{pid}/stat').read_text().rpartition(')')[2].split()[1]
-    return folder in pathlib.Path(f'/proc/{parent}/cwd').resolve().parents
+    return str(folder) in pathlib.Path(f'/proc/{parent}/cmdline').read_text().split('\0')
 
 
 def copy(crate, into):
     """Copies a built crate, unless it changed meanwhile; whether it did."""
-    built, room = crate / 'out' / 'rlib', into / f'{crate.name}.new'
-    seen = files(built)
+    parts = [it for it in ('out/rlib', 'src', 'specs', 'proofs') if (crate / it).is_dir()]
+    seen, room = [files(crate / it) for it in parts], into / f'{crate.name}.new'
     shutil.rmtree(room, ignore_errors=True)
-    shutil.copytree(built, room / 'out' / 'rlib')
-    for part in ('src', 'specs', 'proofs'):
-        if (crate / part).is_dir():
-            shutil.copytree(crate / part, room / part)
-    if files(built) != seen or [it[:2] for it in files(room / 'out' / 'rlib')] != [it[:2] for it in seen]:
+    for it in parts:
+        shutil.copytree(crate / it, room / it)
+    names = lambda lists: [[it[:2] for it in one] for one in lists]
+    if [files(crate / it) for it in parts] != seen or names(files(room / it) for it in parts) != names(seen):
         return False
     shutil.rmtree(into / crate.name, ignore_errors=True)
     room.rename(into / crate.name)

@@ -4,9 +4,10 @@ repository has them then.
 
     lane.py FOLDER NAME NICE JOBS CRATE..
 
-FOLDER holds the clones of all lanes, and for each what `rt ci` said (NAME.out); FOLDER/ends has a line for each crate that ended.
-NICE is the lane's place among what runs (-20 first). JOBS is what rt ci gets as RT_JOBS; with `-` it decides by what memory is free.
-A crate that wasn't proved is tried again once the branch has moved. Edits that must fail are left out: the gate tries them."""
+FOLDER holds the clones of all lanes, and for each what `rt ci` said (NAME.out); FOLDER/ends has a line for each crate that ended:
+when, its status, and how many minutes of a processor it took. NICE is the lane's place among what runs (-20 first). JOBS is what
+rt ci gets as RT_JOBS; with `-` it decides by what memory is free. A crate that wasn't proved is tried again once the branch has
+moved. Edits that must fail are left out: the gate tries them."""
 import os
 import pathlib
 import re
@@ -16,6 +17,12 @@ import sys
 import time
 
 TOP = pathlib.Path(__file__).resolve().parent.parent.parent
+
+
+def origin():
+    """The repository whose branch `go` is proved: the one that this clone is of, where it is a clone."""
+    said = subprocess.run(['git', 'remote', 'get-url', 'origin'], cwd=TOP, capture_output=True, text=True)
+    return said.stdout.strip() or TOP
 
 
 def libraries(clone):
@@ -42,10 +49,13 @@ def renewed(clone):
 def prove(folder, name, jobs, crate):
     """Whether `rt ci` proves the crate."""
     environ = os.environ if jobs == '-' else {**os.environ, 'RT_JOBS': jobs}
+    before = os.times()
     with open(folder / f'{name}.out', 'a') as out:
         status = subprocess.run(['rt', 'ci', crate], cwd=folder / name, env=environ, stdout=out, stderr=out).returncode
     with open(folder / 'ends', 'a') as ends:
-        ends.write(f'{time.strftime("%H:%M")} {crate} {status}\n')
+        behind = os.times()
+        spent = behind.children_user + behind.children_system - before.children_user - before.children_system
+        ends.write(f'{time.strftime("%H:%M")} {crate} {status} {spent / 60:.1f}\n')
     return status == 0
 
 
@@ -54,7 +64,7 @@ def main(folder, name, nice, jobs, *crates):
     clone = folder / name
     pathlib.Path('/proc/self/autogroup').write_text(nice)
     if not clone.is_dir():
-        subprocess.run(['git', 'clone', '-q', '-b', 'go', TOP, clone], check=True)
+        subprocess.run(['git', 'clone', '-q', '-b', 'go', origin(), clone], check=True)
     while left:
         at, uses, done = renewed(clone), libraries(clone), proved(folder)
         ready = [it for it in left if failed.get(it) != at and all(low in done for low in uses[it] if low in uses)]
