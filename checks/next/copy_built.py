@@ -30,8 +30,8 @@ def copy(crate, into):
     shutil.rmtree(room, ignore_errors=True)
     for it in parts:
         shutil.copytree(crate / it, room / it)
-    names = lambda lists: [[it[:2] for it in one] for one in lists]
-    if [files(crate / it) for it in parts] != seen or names(files(room / it) for it in parts) != names(seen):
+    sizes = lambda lists: [[it[:2] for it in one] for one in lists]
+    if [files(crate / it) for it in parts] != seen or sizes(files(room / it) for it in parts) != sizes(seen):
         return False
     shutil.rmtree(into / crate.name, ignore_errors=True)
     room.rename(into / crate.name)

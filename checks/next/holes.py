@@ -4,66 +4,44 @@
 
     holes.py CLONE CRATE..
 
-Functions of impls of traits, and laws (laws.rt), keep their proofs."""
+Functions of traits and of impls of them, and laws (laws.rt), keep their proofs."""
 import pathlib
 import re
 import sys
 
-
-def module_of(root, source):
-    """The path of a source file's module below its crate."""
-    parts = source.relative_to(root / 'src').with_suffix('').parts
-    return [] if parts == ('lib',) else list(parts[:-1] if parts[-1] == 'mod' else parts)
+sys.dont_write_bytecode = True
+sys.path.insert(0, str(pathlib.Path(__file__).resolve().parent.parent))
+import edits
 
 
-def behind_parameters(line):
-    """What stands behind `impl` and its parameters."""
-    rest, depth = line.removeprefix('unsafe ').removeprefix('impl'), 0
-    for at, sign in enumerate(rest):
-        depth += (sign == '<') - (sign == '>' and rest[at - 1] != '-')
-        if depth == 0 and sign != '<':
-            return rest[at + (sign == '>'):].strip()
-    return rest
+def functions(crate):
+    """The path of each function whose proof is to be a hole."""
+    for source in sorted((crate / 'src').rglob('*.rt')):
+        text, path = source.read_text(), source.relative_to(crate)
+        for found in re.finditer(r'^( *)(?:pub(?:\([a-z]+\))? )?(?:const )?fn \w+', text, re.M):
+            kind, name = edits.function(text, found.end())
+            of_trait = not name.startswith(f'{kind}::') if kind else found[1]
+            if source.name != 'laws.rt' and not of_trait:
+                module = edits.home(crate, kind, path) if kind else edits.module(path)
+                yield f'{module}::{name}'.split('::')
 
 
-def functions(root):
-    """The path of each function that has a proof of its own."""
-    sources = {it: module_of(root, it) for it in sorted((root / 'src').rglob('*.rt'))}
-    type_line = re.compile(r'^(?:pub(?:\([^)]*\))? )?(?:struct|enum) (\w+)', re.M)
-    home = {name: module for it, module in sources.items() for name in type_line.findall(it.read_text())}
-    for source, module in sources.items():
-        if module and module[-1] == 'laws':
-            continue
-        of = None
-        for line in source.read_text().splitlines():
-            if line.startswith(('impl', 'unsafe impl')):
-                head = behind_parameters(line)
-                of = '' if ' for ' in head else re.match(r'\w*', head)[0]
-            elif line.startswith(('trait ', 'pub trait ', 'extern ')):
-                of = ''
-            elif line.startswith('}'):
-                of = None
-            found = re.match(r'( {4})?(?:pub(?:\([^)]*\))? )?(?:unsafe )?(?:const )?fn (\w+)', line)
-            if found and not found[1]:
-                yield [*module, found[2]]
-            elif found and of:
-                yield [*home.get(of, module), of, found[2]]
+def put_hole(proofs, path, name):
+    """Leaves a hole of the proof of this function; one that calls itself has its proof in a folder with a `+`."""
+    folder = proofs.joinpath(*path)
+    place = folder / f'+{name}' if (folder / f'+{name}').is_dir() else folder / name
+    for old in place.glob('*.antt'):
+        old.unlink()
+    place.mkdir(parents=True, exist_ok=True)
+    stated = '.'.join(['Rattle', proofs.parent.name, 'proofs', *path, place.name, *(['Statement'] if place.name == name else [])])
+    (place / 'Proof.antt').write_text(
+        f'use {stated} as stated\n\npub {place.name}_spec : {{M : Type 1}} → stated.statement M\n{place.name}_spec = ?\n')
 
 
 def main(clone, *crates):
-    for crate in crates:
-        root = pathlib.Path(clone) / 'crates' / crate
-        for *path, name in list(functions(root)):
-            folder = root.joinpath('proofs', *path)
-            place = folder / f'+{name}' if (folder / f'+{name}').is_dir() else folder / name
-            for old in place.glob('*.antt'):
-                old.unlink()
-            place.mkdir(parents=True, exist_ok=True)
-            stated = '.'.join(['Rattle', crate, 'proofs', *path, place.name])
-            if place.name == name:
-                stated += '.Statement'
-            (place / 'Proof.antt').write_text(
-                f'use {stated} as stated\n\npub {place.name}_spec : {{M : Type 1}} → stated.statement M\n{place.name}_spec = ?\n')
+    for crate in (pathlib.Path(clone) / 'crates' / it for it in crates):
+        for *path, name in list(functions(crate)):
+            put_hole(crate / 'proofs', path, name)
 
 
 if len(sys.argv) < 3:
