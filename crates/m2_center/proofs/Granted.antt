@@ -1,4 +1,5 @@
 -- What was granted for all that a center holds.
+use Rattle.m2_shared.specs.Gates.{pass_places}
 use Rattle.std.proofs.Common.{List, [], ◌∷◌, ◌++◌}
 use Rattle.std.specs.List.{AllByRecursion}
 use Rattle.m2_fabric.specs.declared.socket.SocketId.{SocketId}
@@ -9,12 +10,12 @@ use Rattle.m2_center.specs.Finishing.{AllOwn, IsGranted, rest_of}
 use Rattle.m2_turn.specs.Sessions.{IsSupplied, Supply}
 use Rattle.m2_bytes.proofs.m2_lemmas.Lists.{all_so}
 
-pub all_own : (s : Supply) (made : List SocketId) (rs : List RecordNow) → AllByRecursion (IsSupplied s made) rs → AllOwn s.place rs
-all_own s made rs all = all_so (IsSupplied s made) (Owns s.place) (λ r is. is.owned) rs all
+pub all_own : (s : Supply) (made : List SocketId) (rs : List RecordNow) → AllByRecursion (IsSupplied s made) rs → AllOwn s.places rs
+all_own s made rs all = all_so (IsSupplied s made) (Owns s.places) (λ r is. is.owned) rs all
 
-pub rest_granted : {D : Type 0} (c : CenterNow D) → IsCenter c → IsGranted c.bytes.place (rest_of c)
+pub rest_granted : {D : Type 0} (c : CenterNow D) → IsCenter c → IsGranted (pass_places c.bytes) (rest_of c)
 rest_granted c is = record {
-  records = all_own (record { place = c.bytes.place; least = c.numbers.least }) c.port.made c.records is.consistent.records;
+  records = all_own (record { places = pass_places c.bytes; least = c.numbers.least }) c.port.made c.records is.consistent.records;
   out = is.out;
   queued = is.queued;
 }

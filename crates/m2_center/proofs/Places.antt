@@ -113,7 +113,7 @@ one_keeps made side behind (r ∷ rs) (suc n) within here one = (nothing_told_on
 pub record LeavesSide (s : Supply) (side behind : RecordNow) : Type 0 where
   pub stays : StaysBeside side behind
   pub top : behind.core.top ≡ side.core.top
-  pub owned : Owns s.place behind
+  pub owned : Owns s.places behind
 
 pub planned_consistent : (s : Supply) (entity : ℕ) (made : List SocketId) (side behind : RecordNow) (rs : List RecordNow) (h : AllHalves) (place : ℕ) → place < length rs → slice_index_or rs place side ≡ side →
     LeavesSide s side behind → AreConsistent s entity (sessions_with made rs h) → AreConsistent s entity (sessions_with made (slice_set rs place behind) h)

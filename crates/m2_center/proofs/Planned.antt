@@ -7,7 +7,7 @@ use Rattle.m2_bytes.specs.declared.memory.NoMemory as memory
 use Rattle.m2_journal.specs.declared.facts.PlanStep.{PlanStep}
 use Rattle.m2_journal.specs.declared.facts.PlanStep.TheVariants as step
 use Rattle.m2_journal.specs.Plan.{planned}
-use Rattle.m2_record.specs.m2_core.LiveNow.{held}
+use Rattle.m2_shared.specs.Gates.{held}
 use Rattle.m2_record.specs.Calls.{IsSameButRoom, TakesNext, planned_too, returned_by}
 use Rattle.m2_record.specs.Due.{next_step}
 use Rattle.m2_record.specs.IsRecord.{IsRecord}

@@ -5,7 +5,8 @@ use Rattle.m2_dispatch.specs.Letters.{AreOwned}
 use Rattle.m2_fabric.specs.Port.{SeenPort}
 use Rattle.m2_record.specs.RecordNow.{RecordNow}
 use Rattle.m2_shared.specs.Numbers.{SeenNumberPass}
-use Rattle.m2_shared.specs.Throttle.{SeenTakePass}
+use Rattle.m2_shared.specs.Gates.{pass_places}
+use Rattle.m2_shared.specs.declared.throttles.TakePasses.{TakePasses}
 use Rattle.m2_turn.specs.Halves.{AllHalves, sessions_with}
 use Rattle.m2_turn.specs.Outbox.{OutboxNow, OwnsAll}
 use Rattle.m2_turn.specs.Sessions.{AreConsistent, Sessions, Supply}
@@ -21,8 +22,8 @@ pub record CenterNow (D : Type 0) : Type 0 where
   -- where their parcels go: letters of fast kinds at once, the others by the mail into the queue
   pub out : OutboxNow D
   pub queued : Queued D
-  -- its passes to the node's throttle and to its counter of global numbers
-  pub bytes : SeenTakePass
+  -- its passes to the node's throttles and to its counter of global numbers
+  pub bytes : TakePasses
   pub numbers : SeenNumberPass
 
 -- ---- what its type keeps
@@ -31,10 +32,10 @@ abbrev pub sessions_in : {D : Type 0} → CenterNow D → Sessions
 sessions_in c = sessions_with c.port.made c.records c.halves
 
 abbrev pub supply_in : {D : Type 0} → CenterNow D → Supply
-supply_in c = record { place = c.bytes.place; least = c.numbers.least }
+supply_in c = record { places = pass_places c.bytes; least = c.numbers.least }
 
--- Its records and halves are consistent, and all that it holds for the dispatchers was granted by the node's throttle.
+-- Its records and halves are consistent, and all that it holds for the dispatchers was granted by the node's throttles.
 pub record IsCenter {D : Type 0} (c : CenterNow D) : Type 0 where
   pub consistent : AreConsistent (supply_in c) c.entity (sessions_in c)
-  pub out : OwnsAll c.bytes.place c.out
-  pub queued : AreOwned c.bytes.place c.queued.waiting
+  pub out : OwnsAll (pass_places c.bytes) c.out
+  pub queued : AreOwned (pass_places c.bytes) c.queued.waiting

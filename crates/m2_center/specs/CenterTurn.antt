@@ -5,7 +5,8 @@ use Rattle.m2_bytes.specs.declared.memory.NoMemory as memory
 use Rattle.m2_dispatch.specs.Heard.{Heard}
 use Rattle.m2_dispatch.specs.declared.parcel.Parcel.{Parcel}
 use Rattle.m2_shared.specs.Numbers.{SeenNumbers}
-use Rattle.m2_shared.specs.Throttle.{SeenThrottle}
+use Rattle.m2_shared.specs.Gates.{places}
+use Rattle.m2_shared.specs.declared.throttles.Throttles.{Throttles}
 use Rattle.m2_turn.specs.declared.accepting.Accepted.{Accepted}
 use Rattle.m2_turn.specs.declared.accepting.Accepted.TheVariants as accepted
 use Rattle.m2_turn.specs.declared.halves_turn.HalvesTurn.{HalvesTurn}
@@ -66,7 +67,7 @@ pub record TurnsRecords {D : Type 0} (heard : D → List Heard) (m : Means) (res
 
 -- the mail is emptied
 pub record EmptiesMail {D : Type 0} (heard : D → List Heard) (m : Means) (result : Mailed) (old new : CenterNow D) : Type 0 where
-  pub mails : Mails heard m.throttle.place result (mailing_in old) (mailing_in new)
+  pub mails : Mails heard (places m.throttles) result (mailing_in old) (mailing_in new)
   pub only : new ≡ record old { out = new.out; queued = new.queued; bytes = new.bytes }
 
 -- what a turn says of memory
@@ -127,5 +128,5 @@ abbrev pub TakesTurnOn : {D : Type 0} → (E : Type 0) → (heard : D → List H
 TakesTurnOn E heard m into behind = AndThen AcceptsSo (AndThen (AnswersSo E m) (AndThen (StepsSo heard m) (HandsOnSo heard m into behind)))
 
 -- the moment, and what the threads of the node share
-abbrev pub means_at : (now : ℕ) → SeenNumbers → SeenThrottle → Means
-means_at now numbers throttle = record { now = now; throttle = throttle; counter = numbers.place }
+abbrev pub means_at : (now : ℕ) → SeenNumbers → Throttles → Means
+means_at now numbers throttles = record { now = now; throttles = throttles; counter = numbers.place }

@@ -7,8 +7,8 @@ use Rattle.m2_fabric.specs.Port.{SeenPort}
 use Rattle.m2_record.specs.Calls.{Owns}
 use Rattle.m2_record.specs.RecordNow.{RecordNow}
 use Rattle.m2_shared.specs.Numbers.{SeenNumberPass}
-use Rattle.m2_shared.specs.Place.{Place}
-use Rattle.m2_shared.specs.Throttle.{SeenTakePass}
+use Rattle.m2_shared.specs.Gates.{Places}
+use Rattle.m2_shared.specs.declared.throttles.TakePasses.{TakePasses}
 use Rattle.m2_trail.specs.Arrivals.{LooseNow}
 use Rattle.m2_center.specs.Center.{CenterNow}
 use Rattle.m2_turn.specs.Halves.{after_leaving}
@@ -20,7 +20,7 @@ pub record RestNow (D : Type 0) : Type 0 where
   pub loose : List LooseNow
   pub out : OutboxNow D
   pub queued : Queued D
-  pub bytes : SeenTakePass
+  pub bytes : TakePasses
   pub numbers : SeenNumberPass
 
 -- its halves are left as they are, behind those that were over
@@ -35,11 +35,11 @@ rest_of c = record {
   numbers = c.numbers;
 }
 
-abbrev pub AllOwn : Place → List RecordNow → Type 0
-AllOwn place records = AllByRecursion (Owns place) records
+abbrev pub AllOwn : Places → List RecordNow → Type 0
+AllOwn places records = AllByRecursion (Owns places) records
 
--- all that it holds was granted by the throttle whose word lies there
-pub record IsGranted {D : Type 0} (place : Place) (r : RestNow D) : Type 0 where
-  pub records : AllOwn place r.records
-  pub out : OwnsAll place r.out
-  pub queued : AreOwned place r.queued.waiting
+-- all that it holds was granted by the throttles whose words lie there
+pub record IsGranted {D : Type 0} (places : Places) (r : RestNow D) : Type 0 where
+  pub records : AllOwn places r.records
+  pub out : OwnsAll places r.out
+  pub queued : AreOwned places r.queued.waiting

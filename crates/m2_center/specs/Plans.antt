@@ -9,7 +9,8 @@ use Rattle.m2_record.specs.Calls.{returned_by}
 use Rattle.m2_record.specs.Due.{next_step, on_feed}
 use Rattle.m2_record.specs.RecordNow.{RecordNow, composed_on, feed_end}
 use Rattle.m2_turn.specs.m2_session.declared.session.Session.{Session}
-use Rattle.m2_shared.specs.Place.{IsAlone, Place}
+use Rattle.m2_shared.specs.Gates.{Return, pass_places}
+use Rattle.m2_shared.specs.declared.throttles.Throttles.{Throttles}
 use Rattle.m2_trail.specs.Trails.{TrailNow}
 use Rattle.m2_center.specs.Center.{CenterNow}
 use Rattle.m2_center.specs.CenterTurn.{Answer}
@@ -35,15 +36,15 @@ pub record IsReadyFor (peer : ℕ) (records : List RecordNow) : Type 0 where
   pub taken : next_step side ≡ None
 
 -- The first record towards the peer plans the step and takes it. Of all else what was granted for it may be given back.
-pub record PlansIn {D : Type 0} (result : Answer) (peer : ℕ) (step : PlanStep) (now : ℕ) (throttle : Place) (old new : CenterNow D) : Type 0 where
+pub record PlansIn {D : Type 0} (result : Answer) (peer : ℕ) (step : PlanStep) (now : ℕ) (throttles : Throttles) (old new : CenterNow D) : Type 0 where
   pub place : ℕ
   pub before : RecordNow
   pub behind : RecordNow
   pub first : place_towards peer old.records ≡ Some place
   pub side : slice_get old.records place ≡ Some before
   pub plans : PlansNow result step now before behind
-  pub gives : IsAlone throttle → OnOk result (new.bytes.word ≡ old.bytes.word - returned_by (Some step) before)
-  pub bytes : new.bytes.place ≡ old.bytes.place
+  pub gives : OnOk result (Return (returned_by (Some step) before) throttles old.bytes new.bytes)
+  pub bytes : pass_places new.bytes ≡ pass_places old.bytes
   pub only : new ≡ record old { records = slice_set old.records place behind; bytes = new.bytes }
 
 -- ---- what is lent of a record

@@ -6,23 +6,23 @@ ghost use Rattle.m2_turn.specs.declared.pending.TheConstants.{MOST_HALVES};
 use m2_dispatch::Dispatch;
 use m2_fabric::Port;
 use m2_record::Record;
-use m2_shared::{NumberPass, Numbers, TakePass, Throttle};
+use m2_shared::{NumberPass, Numbers, TakePasses, Throttles};
 use m2_trail::Loose;
 use m2_turn::{Outbox, Pendings, Roster};
 use std::alloc::Global;
 use std::marker::Model;
 
-/// What the threads of a node share: the counter of global numbers, and the throttle of the bytes of
-/// messages that are out. It can't be dropped, since a throttle can't.
+/// What the threads of a node share: the counter of global numbers, and the throttles of what is on its way
+/// to its dispatchers. It can't be dropped, since a throttle can't.
 pub struct NodeShared {
     pub numbers: Numbers,
-    pub throttle: Throttle,
+    pub throttles: Throttles,
 }
 
 /// A thread's passes to what its node shares.
 pub struct Passes {
     pub numbers: NumberPass,
-    pub throttle: TakePass,
+    pub throttles: TakePasses,
 }
 
 /// An event thread of a node: a port, the records that are at home here, the sockets of peers that no record
@@ -65,7 +65,7 @@ impl<P: Port, D> Model for Center<P, D> {
       records = c.records.items;
       out = c.out;
       queued = c.queued;
-      bytes = c.passes.throttle;
+      bytes = c.passes.throttles;
       numbers = c.passes.numbers;
     } };
 
@@ -76,7 +76,7 @@ impl<P: Port, D> Model for Center<P, D> {
       records = c.records.items;
       out = c.out;
       queued = c.queued;
-      bytes = c.passes.throttle;
+      bytes = c.passes.throttles;
       numbers = c.passes.numbers;
     }) × (c.roster ≡ map peer_of c.records.items) × (length c.halves ≤ vec_capacity c.loose - vec_len c.loose)
         × (length c.piece.items ≡ MOST_READ) };

@@ -2,6 +2,7 @@
 
 ghost use Rattle.std.specs.Prelude.{◌≡◌};
 ghost use Rattle.m2_center.specs.Finishing.{AllOwn, IsGranted, rest_of};
+ghost use Rattle.m2_shared.specs.Gates.{ArePassesOf, pass_places, places};
 
 use crate::center::{Center, NodeShared, Passes};
 use crate::making::Unmade;
@@ -9,7 +10,7 @@ use m2_bytes::Items;
 use m2_dispatch::Dispatch;
 use m2_fabric::{End, Port};
 use m2_record::Record;
-use m2_shared::{TakePass, Throttle};
+use m2_shared::{TakePasses, Throttles};
 use m2_trail::LooseList;
 use m2_turn::{Outbox, leave_all};
 use std::marker::Model;
@@ -34,7 +35,7 @@ pub struct Cleared<D> {
     /// The dispatcher of fast kinds, and the one behind the queue.
     pub fast: D,
     pub queued: D,
-    /// How many bytes the throttle had granted that weren't given back.
+    /// How many bytes the throttle of the dispatch had granted that weren't given back.
     pub out: u64,
 }
 
@@ -49,7 +50,7 @@ impl<P: Port, D> Model for CenterRest<P, D> {
       loose = r.loose.items;
       out = r.out;
       queued = r.queued;
-      bytes = r.passes.throttle;
+      bytes = r.passes.throttles;
       numbers = r.passes.numbers;
     } };
 }
@@ -58,7 +59,7 @@ impl<P: Port, D> Center<P, D> {
     /// Ends the center. The halves that no record took are left as they are. Takes no memory.
     pub fn finished(self) -> CenterRest<P, D>
         ensures rest { result ≡ rest_of self }
-        ensures granted { IsGranted self.bytes.place result }
+        ensures granted { IsGranted (pass_places self.bytes) result }
     {
         let Center {
             alloc: _,
@@ -89,8 +90,8 @@ impl<P: Port, D> CenterRest<P, D> {
     /// Gives back all that was granted, throws away what wasn't dispatched, and gives the dispatchers. No other
     /// thread has passes to what its node shares.
     pub fn clear(self, shared: NodeShared) -> Cleared<D>
-        requires pass { self.bytes.place ≡ shared.throttle.place }
-        requires granted { IsGranted self.bytes.place self }
+        requires pass { pass_places self.bytes ≡ places shared.throttles }
+        requires granted { IsGranted (pass_places self.bytes) self }
         ensures fast { result.fast ≡ self.out.fast }
         ensures queued { result.queued ≡ self.queued.inner }
     {
@@ -104,19 +105,19 @@ impl<P: Port, D> CenterRest<P, D> {
         } = self;
         let NodeShared {
             numbers: _,
-            throttle,
+            throttles,
         } = shared;
         let Passes {
             numbers: _,
-            throttle: mut pass,
+            throttles: mut own,
         } = passes;
-        end_all(records, &throttle, &mut pass);
-        let fast = out.clear(&throttle, &mut pass);
-        let queued = queued.finish(&throttle, &mut pass);
+        end_all(records, &throttles, &mut own);
+        let fast = out.clear(&throttles, &mut own);
+        let queued = queued.finish(&throttles, &mut own);
         Cleared {
             fast,
             queued,
-            out: throttle.close(pass),
+            out: throttles.close(own),
         }
     }
 }
@@ -124,8 +125,8 @@ impl<P: Port, D> CenterRest<P, D> {
 impl<P: Port, D> Unmade<P, D> {
     /// The same of what no center was made of.
     pub fn clear(self, shared: NodeShared) -> Cleared<D>
-        requires pass { self.passes.throttle.place ≡ shared.throttle.place }
-        requires granted { AllOwn shared.throttle.place self.records.items }
+        requires pass { pass_places self.passes.throttles ≡ places shared.throttles }
+        requires granted { AllOwn (places shared.throttles) self.records.items }
         ensures fast { result.fast ≡ self.fast }
         ensures queued { result.queued ≡ self.queued }
     {
@@ -139,29 +140,29 @@ impl<P: Port, D> Unmade<P, D> {
         } = self;
         let NodeShared {
             numbers: _,
-            throttle,
+            throttles,
         } = shared;
         let Passes {
             numbers: _,
-            throttle: mut pass,
+            throttles: mut own,
         } = passes;
-        end_all(records, &throttle, &mut pass);
+        end_all(records, &throttles, &mut own);
         Cleared {
             fast,
             queued,
-            out: throttle.close(pass),
+            out: throttles.close(own),
         }
     }
 }
 
 /// Ends these records, which give back what they hold.
-fn end_all<E: End>(mut records: Vec<Record<E>>, throttle: &Throttle, pass: &mut TakePass)
-    requires pass { pass.old.place ≡ throttle.now.place }
-    requires owned { AllOwn throttle.now.place records.items }
-    ensures { pass.new.place ≡ pass.old.place }
+fn end_all<E: End>(mut records: Vec<Record<E>>, throttles: &Throttles, passes: &mut TakePasses)
+    requires passes { ArePassesOf throttles.now passes.old }
+    requires owned { AllOwn (places throttles.now) records.items }
+    ensures { ArePassesOf throttles.now passes.new }
 {
     'ends: while let Some(side) = records.pop() {
-        let _ends = side.ends(throttle, pass);
+        let _ends = side.ends(throttles, passes);
     }
     records.destroy_empty();
 }

@@ -41,10 +41,10 @@ struct Furnished<E: End> {
 impl<P: Port, D> Center<P, D> {
     /// A center that has accepted and dispatched nothing. Err hands everything back, for want of memory.
     pub fn new(alloc: Global, of: Unmade<P, D>) -> Result<Center<P, D>, Unmade<P, D>>
-        requires begin { CanBegin of.entity (P.seen of.port) of.records.items of.passes.throttle of.passes.numbers }
-        ensures ok { IfOk result (λ c. c ≡ new_center of.entity (P.seen of.port) of.records.items of.fast of.queued of.passes.throttle of.passes.numbers) }
-        ensures err { IfErr result (λ back. unmade_now back.entity (P.seen back.port) back.records.items back.fast back.queued back.passes.throttle back.passes.numbers
-            ≡ unmade_now of.entity (P.seen of.port) of.records.items of.fast of.queued of.passes.throttle of.passes.numbers) }
+        requires begin { CanBegin of.entity (P.seen of.port) of.records.items of.passes.throttles of.passes.numbers }
+        ensures ok { IfOk result (λ c. c ≡ new_center of.entity (P.seen of.port) of.records.items of.fast of.queued of.passes.throttles of.passes.numbers) }
+        ensures err { IfErr result (λ back. unmade_now back.entity (P.seen back.port) back.records.items back.fast back.queued back.passes.throttles back.passes.numbers
+            ≡ unmade_now of.entity (P.seen of.port) of.records.items of.fast of.queued of.passes.throttles of.passes.numbers) }
     {
         match furnish(alloc, of.records.as_slice()) {
             Err(NoMemory) => Err(of),
@@ -86,13 +86,13 @@ fn begin<P: Port, D>(
     of: Unmade<P, D>,
     with: Furnished<P::End>,
 ) -> Result<Center<P, D>, Unmade<P, D>>
-    requires begin { CanBegin of.entity (P.seen of.port) of.records.items of.passes.throttle of.passes.numbers }
+    requires begin { CanBegin of.entity (P.seen of.port) of.records.items of.passes.throttles of.passes.numbers }
     requires roster { with.roster ≡ map peer_of of.records.items }
     requires none { with.halves ≡ [] }
     requires piece { length with.piece.items ≡ MOST_READ }
-    ensures ok { IfOk result (λ c. c ≡ new_center of.entity (P.seen of.port) of.records.items of.fast of.queued of.passes.throttle of.passes.numbers) }
-    ensures err { IfErr result (λ back. unmade_now back.entity (P.seen back.port) back.records.items back.fast back.queued back.passes.throttle back.passes.numbers
-        ≡ unmade_now of.entity (P.seen of.port) of.records.items of.fast of.queued of.passes.throttle of.passes.numbers) }
+    ensures ok { IfOk result (λ c. c ≡ new_center of.entity (P.seen of.port) of.records.items of.fast of.queued of.passes.throttles of.passes.numbers) }
+    ensures err { IfErr result (λ back. unmade_now back.entity (P.seen back.port) back.records.items back.fast back.queued back.passes.throttles back.passes.numbers
+        ≡ unmade_now of.entity (P.seen of.port) of.records.items of.fast of.queued of.passes.throttles of.passes.numbers) }
 {
     let Unmade {
         entity,

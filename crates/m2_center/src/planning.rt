@@ -5,9 +5,9 @@ ghost use Rattle.m2_record.specs.Calls.{HasRoomFor, Owns, TakesNext, planned_too
 ghost use Rattle.m2_record.specs.Due.{next_step};
 ghost use Rattle.m2_record.specs.IsRecord.{CanBePlanned, IsRecord};
 ghost use Rattle.m2_record.specs.Stepping.{IsSameWork};
-ghost use Rattle.m2_shared.specs.Place.{IsAlone, Place};
 ghost use Rattle.m2_turn.specs.Answering.{StaysBeside};
 ghost use Rattle.m2_turn.specs.Planning.{PlansNow};
+ghost use Rattle.m2_shared.specs.Gates.{ArePassesOf, Return, places};
 
 use m2_bytes::NoMemory;
 use m2_fabric::End;
@@ -24,18 +24,18 @@ pub fn plan_at<E: End>(
 ) -> Result<(), NoMemory>
     requires taken { next_step side.old ≡ None }
     requires step { CanBePlanned step }
-    requires takes { work.old.take_pass.now.place ≡ work.old.throttle.now.place }
-    requires owned { Owns work.old.throttle.now.place side.old }
+    requires takes { ArePassesOf work.old.throttles.now work.old.passes.now }
+    requires owned { Owns (places work.old.throttles.now) side.old }
     ensures plans { PlansNow result step now side.old side.new }
     ensures stays { StaysBeside side.old side.new }
     ensures top { side.new.core.top ≡ side.old.core.top }
-    ensures owned { Owns work.old.throttle.now.place side.new }
-    ensures word { IsAlone work.old.throttle.now.place → OnOk result (work.new.take_pass.now.word ≡ work.old.take_pass.now.word - returned_by (Some step) side.old) }
+    ensures owned { Owns (places work.old.throttles.now) side.new }
+    ensures word { OnOk result (Return (returned_by (Some step) side.old) work.old.throttles.now work.old.passes.now work.new.passes.now) }
     ensures numbers { work.new.number_pass.now ≡ work.old.number_pass.now }
-    ensures take_place { work.new.take_pass.now.place ≡ work.old.take_pass.now.place }
+    ensures takes { ArePassesOf work.new.throttles.now work.new.passes.now }
     ensures same { IsSameWork work.old work.new }
     ensures number_pass { work.new.number_pass.ghost_name ≡ work.old.number_pass.ghost_name }
-    ensures take_pass { work.new.take_pass.ghost_name ≡ work.old.take_pass.ghost_name }
+    ensures passes { work.new.passes.ghost_name ≡ work.old.passes.ghost_name }
 {
     side.is_record();
     side.reserve(2)?;
@@ -58,19 +58,19 @@ fn add_step<E: End>(side: &mut Record<E>, step: PlanStep) -> Result<(), NoMemory
 /// Takes the next step of a record's plan, behind room that was made for it.
 fn take_next<E: End>(side: &mut Record<E>, work: &mut Work<'_>, now: u64) -> Result<(), NoMemory>
     requires room { HasRoomFor 2 side.old.room }
-    requires takes { work.old.take_pass.now.place ≡ work.old.throttle.now.place }
-    requires owned { Owns work.old.throttle.now.place side.old }
+    requires takes { ArePassesOf work.old.throttles.now work.old.passes.now }
+    requires owned { Owns (places work.old.throttles.now) side.old }
     ensures taken { TakesNext (next_step side.old) result now side.old side.new }
     ensures is_record { IsRecord side.new }
-    ensures owned { Owns work.old.throttle.now.place side.new }
-    ensures word { IsAlone work.old.throttle.now.place → work.new.take_pass.now.word ≡ work.old.take_pass.now.word - returned_by (next_step side.old) side.old }
+    ensures owned { Owns (places work.old.throttles.now) side.new }
+    ensures word { Return (returned_by (next_step side.old) side.old) work.old.throttles.now work.old.passes.now work.new.passes.now }
     ensures numbers { work.new.number_pass.now ≡ work.old.number_pass.now }
-    ensures take_place { work.new.take_pass.now.place ≡ work.old.take_pass.now.place }
+    ensures takes { ArePassesOf work.new.throttles.now work.new.passes.now }
     ensures same { IsSameWork work.old work.new }
     ensures number_pass { work.new.number_pass.ghost_name ≡ work.old.number_pass.ghost_name }
-    ensures take_pass { work.new.take_pass.ghost_name ≡ work.old.take_pass.ghost_name }
+    ensures passes { work.new.passes.ghost_name ≡ work.old.passes.ghost_name }
 {
-    let taken = side.take_planned(work.throttle, work.take_pass, now);
+    let taken = side.take_planned(work.throttles, work.passes, now);
     side.is_record();
     taken
 }

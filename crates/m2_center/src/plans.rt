@@ -5,6 +5,7 @@ ghost use Rattle.std.specs.Option.{option_map, option_to_list};
 ghost use Rattle.m2_record.specs.IsRecord.{CanBePlanned, IsRecord};
 ghost use Rattle.m2_trail.specs.Trails.{trail_now};
 ghost use Rattle.m2_center.specs.Plans.{IsReadyFor, PlansIn, is_towards, parts_of, side_towards};
+ghost use Rattle.m2_shared.specs.Gates.{pass_places, places};
 
 use crate::center::{Center, NodeShared};
 use crate::planning::plan_at;
@@ -24,16 +25,16 @@ impl<P: Port, D> Center<P, D> {
         step: PlanStep,
         now: u64,
     ) -> Result<(), NoMemory>
-        requires throttle { self.old.bytes.place ≡ shared.now.throttle.place }
+        requires throttles { pass_places self.old.bytes ≡ places shared.now.throttles }
         requires ready { IsReadyFor peer self.old.records }
         requires step { CanBePlanned step }
-        ensures plans { PlansIn result peer step now shared.now.throttle.place self.old self.new }
+        ensures plans { PlansIn result peer step now shared.now.throttles self.old self.new }
     {
         let mut work = Work {
             numbers: &shared.numbers,
             number_pass: &mut self.passes.numbers,
-            throttle: &shared.throttle,
-            take_pass: &mut self.passes.throttle,
+            throttles: &shared.throttles,
+            passes: &mut self.passes.throttles,
         };
         match place_towards(self.records.as_slice(), peer) {
             Some(place) => plan_at(&mut self.records[place], step, &mut work, now),

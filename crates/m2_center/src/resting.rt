@@ -8,6 +8,7 @@ ghost use Rattle.m2_center.specs.Idle.{are_idle, is_delivered, is_idle, is_unhea
 ghost use Rattle.m2_shared.specs.Throttle.{out_alone};
 ghost use Rattle.m2_turn.specs.Mailing.{is_mailed};
 ghost use Rattle.m2_turn.specs.RecordsTurn as turns;
+ghost use Rattle.m2_shared.specs.Gates.{dispatch, pass_places, words};
 
 use crate::center::Center;
 use m2_fabric::{End, Port};
@@ -38,11 +39,11 @@ impl<P: Port, D> Center<P, D> {
         all_idle(self.records.as_slice(), now)
     }
 
-    /// How many bytes the node's throttle has out. None exactly where other threads share it.
+    /// How many bytes the throttle of the node's dispatch has out. None exactly where other threads share it.
     pub fn granted(&self) -> Option<u64>
-        ensures { result ≡ out_alone self.now.bytes }
+        ensures { result ≡ out_alone self.now.bytes.dispatch }
     {
-        self.passes.throttle.out()
+        self.passes.throttles.dispatch.out()
     }
 
     /// Whether a letter of a fast kind is held, for which its dispatcher had no memory.

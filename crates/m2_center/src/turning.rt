@@ -11,11 +11,11 @@ ghost use Rattle.m2_turn.specs.Outbox.{OwnsAll};
 ghost use Rattle.m2_turn.specs.RecordTurn.{means_of};
 ghost use Rattle.m2_turn.specs.RecordsTurn.{TurnsEach, all_amid, around};
 ghost use Rattle.m2_turn.specs.Sessions.{AreConsistent, IsSupplied, peer_of, supply_of};
-ghost use Rattle.m2_shared.specs.Place.{IsShared};
 ghost use Rattle.m2_fabric.specs.declared.socket.SocketId.{SocketId};
 ghost use Rattle.m2_record.specs.Stepping.{IsSameWork, KeepsReached};
 ghost use Rattle.std.specs.List.{AllByRecursion};
 ghost use Rattle.std.specs.Prelude.{List, length, map, take, vec_capacity, vec_len, ℕ, ◌-◌, ◌<◌, ◌≡◌, ◌≤◌};
+ghost use Rattle.m2_shared.specs.Gates.{ArePassesOf, AreShared, pass_places, places};
 
 use crate::center::{Center, NodeShared};
 use crate::counting::is_still;
@@ -59,11 +59,11 @@ impl<P: Port, D: Dispatcher> Center<P, D> {
     /// early: what was done stays, and the center may go on.
     pub fn turn(&mut self, shared: &NodeShared, now: u64) -> CenterTurn
         requires numbers { self.old.numbers.place ≡ shared.now.numbers.place }
-        requires throttle { self.old.bytes.place ≡ shared.now.throttle.place }
-        ensures turns { TakesTurn P.End D.heard (means_at now shared.now.numbers shared.now.throttle) (memory_in result) self.old self.new }
+        requires throttles { pass_places self.old.bytes ≡ places shared.now.throttles }
+        ensures turns { TakesTurn P.End D.heard (means_at now shared.now.numbers shared.now.throttles) (memory_in result) self.old self.new }
         ensures says { SaysTurn result self.old self.new }
         ensures numbers { self.new.numbers.place ≡ self.old.numbers.place }
-        ensures throttle { self.new.bytes.place ≡ self.old.bytes.place }
+        ensures throttles { pass_places self.new.bytes ≡ pass_places self.old.bytes }
     {
         let before = self.count();
         let mut handed = false;
@@ -82,14 +82,14 @@ impl<P: Port, D: Dispatcher> Center<P, D> {
         into: &mut VecDeque<Parcel>,
     ) -> CenterTurn
         requires numbers { self.old.numbers.place ≡ shared.now.numbers.place }
-        requires throttle { self.old.bytes.place ≡ shared.now.throttle.place }
-        requires shared { IsShared shared.now.throttle.place }
-        ensures turns { TakesTurn P.End D.heard (means_at now shared.now.numbers shared.now.throttle) (memory_in result) self.old self.new }
-        ensures dispatched { TakesTurnOn P.End D.heard (means_at now shared.now.numbers shared.now.throttle) into.old.items into.new.items (memory_in result) self.old self.new }
-        ensures on { HandsOn D.heard shared.now.throttle.place self.old.queued.inner self.new.queued.inner into.old.items into.new.items }
+        requires throttles { pass_places self.old.bytes ≡ places shared.now.throttles }
+        requires shared { AreShared shared.now.throttles }
+        ensures turns { TakesTurn P.End D.heard (means_at now shared.now.numbers shared.now.throttles) (memory_in result) self.old self.new }
+        ensures dispatched { TakesTurnOn P.End D.heard (means_at now shared.now.numbers shared.now.throttles) into.old.items into.new.items (memory_in result) self.old self.new }
+        ensures on { HandsOn D.heard (places shared.now.throttles) self.old.queued.inner self.new.queued.inner into.old.items into.new.items }
         ensures says { SaysTurn result self.old self.new }
         ensures numbers { self.new.numbers.place ≡ self.old.numbers.place }
-        ensures throttle { self.new.bytes.place ≡ self.old.bytes.place }
+        ensures throttles { pass_places self.new.bytes ≡ pass_places self.old.bytes }
     {
         let before = self.count();
         let mut handed = false;
@@ -108,13 +108,13 @@ impl<P: Port, D: Dispatcher> Center<P, D> {
         into: &mut VecDeque<Parcel>,
     ) -> Result<(), NoMemory>
         requires numbers { self.old.numbers.place ≡ shared.now.numbers.place }
-        requires throttle { self.old.bytes.place ≡ shared.now.throttle.place }
-        requires shared { IsShared shared.now.throttle.place }
-        ensures turns { TakesTurnOn P.End D.heard (means_at now shared.now.numbers shared.now.throttle) into.old.items into.new.items result self.old self.new }
-        ensures on { HandsOn D.heard shared.now.throttle.place self.old.queued.inner self.new.queued.inner into.old.items into.new.items }
+        requires throttles { pass_places self.old.bytes ≡ places shared.now.throttles }
+        requires shared { AreShared shared.now.throttles }
+        ensures turns { TakesTurnOn P.End D.heard (means_at now shared.now.numbers shared.now.throttles) into.old.items into.new.items result self.old self.new }
+        ensures on { HandsOn D.heard (places shared.now.throttles) self.old.queued.inner self.new.queued.inner into.old.items into.new.items }
         ensures handed { SaysMore handed.old handed.new (handed_in self.old.records) (handed_in self.new.records) }
         ensures numbers { self.new.numbers.place ≡ self.old.numbers.place }
-        ensures throttle { self.new.bytes.place ≡ self.old.bytes.place }
+        ensures throttles { pass_places self.new.bytes ≡ pass_places self.old.bytes }
     {
         self.accept()?;
         self.answer(shared, now)?;
@@ -131,11 +131,11 @@ impl<P: Port, D: Dispatcher> Center<P, D> {
         now: u64,
     ) -> Result<(), NoMemory>
         requires numbers { self.old.numbers.place ≡ shared.now.numbers.place }
-        requires throttle { self.old.bytes.place ≡ shared.now.throttle.place }
-        ensures turns { TakesTurn P.End D.heard (means_at now shared.now.numbers shared.now.throttle) result self.old self.new }
+        requires throttles { pass_places self.old.bytes ≡ places shared.now.throttles }
+        ensures turns { TakesTurn P.End D.heard (means_at now shared.now.numbers shared.now.throttles) result self.old self.new }
         ensures handed { SaysMore handed.old handed.new (handed_in self.old.records) (handed_in self.new.records) }
         ensures numbers { self.new.numbers.place ≡ self.old.numbers.place }
-        ensures throttle { self.new.bytes.place ≡ self.old.bytes.place }
+        ensures throttles { pass_places self.new.bytes ≡ pass_places self.old.bytes }
     {
         self.accept()?;
         self.answer(shared, now)?;
@@ -161,17 +161,17 @@ impl<P: Port, D: Dispatcher> Center<P, D> {
     /// The halves take their turns.
     fn answer(&mut self, shared: &NodeShared, now: u64) -> Result<(), NoMemory>
         requires numbers { self.old.numbers.place ≡ shared.now.numbers.place }
-        requires throttle { self.old.bytes.place ≡ shared.now.throttle.place }
-        ensures answers { AnswersSo P.End (means_at now shared.now.numbers shared.now.throttle) result self.old self.new }
+        requires throttles { pass_places self.old.bytes ≡ places shared.now.throttles }
+        ensures answers { AnswersSo P.End (means_at now shared.now.numbers shared.now.throttles) result self.old self.new }
         ensures queued { self.new.queued ≡ self.old.queued }
         ensures numbers { self.new.numbers.place ≡ self.old.numbers.place }
-        ensures throttle { self.new.bytes.place ≡ self.old.bytes.place }
+        ensures throttles { pass_places self.new.bytes ≡ pass_places self.old.bytes }
     {
         let mut work = Work {
             numbers: &shared.numbers,
             number_pass: &mut self.passes.numbers,
-            throttle: &shared.throttle,
-            take_pass: &mut self.passes.throttle,
+            throttles: &shared.throttles,
+            passes: &mut self.passes.throttles,
         };
         answered_so(answer_all(
             &mut self.halves,
@@ -187,18 +187,18 @@ impl<P: Port, D: Dispatcher> Center<P, D> {
     /// The records take theirs.
     fn step(&mut self, shared: &NodeShared, handed: &mut bool, now: u64) -> Result<(), NoMemory>
         requires numbers { self.old.numbers.place ≡ shared.now.numbers.place }
-        requires throttle { self.old.bytes.place ≡ shared.now.throttle.place }
-        ensures steps { StepsSo D.heard (means_at now shared.now.numbers shared.now.throttle) result self.old self.new }
+        requires throttles { pass_places self.old.bytes ≡ places shared.now.throttles }
+        ensures steps { StepsSo D.heard (means_at now shared.now.numbers shared.now.throttles) result self.old self.new }
         ensures queued { self.new.queued ≡ self.old.queued }
         ensures handed { SaysMore handed.old handed.new (handed_in self.old.records) (handed_in self.new.records) }
         ensures numbers { self.new.numbers.place ≡ self.old.numbers.place }
-        ensures throttle { self.new.bytes.place ≡ self.old.bytes.place }
+        ensures throttles { pass_places self.new.bytes ≡ pass_places self.old.bytes }
     {
         let mut work = Work {
             numbers: &shared.numbers,
             number_pass: &mut self.passes.numbers,
-            throttle: &shared.throttle,
-            take_pass: &mut self.passes.throttle,
+            throttles: &shared.throttles,
+            passes: &mut self.passes.throttles,
         };
         stepped_so(step_all(
             &mut self.records,
@@ -212,16 +212,16 @@ impl<P: Port, D: Dispatcher> Center<P, D> {
 
     /// The mail is emptied.
     fn deliver(&mut self, shared: &NodeShared, now: u64) -> Result<(), NoMemory>
-        requires throttle { self.old.bytes.place ≡ shared.now.throttle.place }
-        ensures delivers { DeliversSo D.heard (means_at now shared.now.numbers shared.now.throttle) result self.old self.new }
+        requires throttles { pass_places self.old.bytes ≡ places shared.now.throttles }
+        ensures delivers { DeliversSo D.heard (means_at now shared.now.numbers shared.now.throttles) result self.old self.new }
         ensures numbers { self.new.numbers ≡ self.old.numbers }
-        ensures throttle { self.new.bytes.place ≡ self.old.bytes.place }
+        ensures throttles { pass_places self.new.bytes ≡ pass_places self.old.bytes }
     {
         delivered_so(empty_mail(
             &mut self.out,
             &mut self.queued,
-            &shared.throttle,
-            &mut self.passes.throttle,
+            &shared.throttles,
+            &mut self.passes.throttles,
         ))
     }
 
@@ -232,18 +232,18 @@ impl<P: Port, D: Dispatcher> Center<P, D> {
         now: u64,
         into: &mut VecDeque<Parcel>,
     ) -> Result<(), NoMemory>
-        requires throttle { self.old.bytes.place ≡ shared.now.throttle.place }
-        requires shared { IsShared shared.now.throttle.place }
-        ensures delivers { HandsOnSo D.heard (means_at now shared.now.numbers shared.now.throttle) into.old.items into.new.items result self.old self.new }
-        ensures on { HandsOn D.heard shared.now.throttle.place self.old.queued.inner self.new.queued.inner into.old.items into.new.items }
+        requires throttles { pass_places self.old.bytes ≡ places shared.now.throttles }
+        requires shared { AreShared shared.now.throttles }
+        ensures delivers { HandsOnSo D.heard (means_at now shared.now.numbers shared.now.throttles) into.old.items into.new.items result self.old self.new }
+        ensures on { HandsOn D.heard (places shared.now.throttles) self.old.queued.inner self.new.queued.inner into.old.items into.new.items }
         ensures numbers { self.new.numbers ≡ self.old.numbers }
-        ensures throttle { self.new.bytes.place ≡ self.old.bytes.place }
+        ensures throttles { pass_places self.new.bytes ≡ pass_places self.old.bytes }
     {
         delivered_so(hand_mail_on(
             &mut self.out,
             &mut self.queued,
-            &shared.throttle,
-            &mut self.passes.throttle,
+            &shared.throttles,
+            &mut self.passes.throttles,
             into,
         ))
     }
@@ -315,17 +315,17 @@ fn answer_all<E: End>(
     requires consistent { (made : List SocketId) × ((entity : ℕ) × AreConsistent (supply_of work.old) entity (sessions_of made (callers halves.old loose.old.items (homes records.old.items work.old)))) }
     requires room { length halves.old ≤ vec_capacity loose.old - vec_len loose.old }
     requires numbers { work.old.number_pass.now.place ≡ work.old.numbers.now.place }
-    requires takes { work.old.take_pass.now.place ≡ work.old.throttle.now.place }
+    requires takes { ArePassesOf work.old.throttles.now work.old.passes.now }
     requires piece { length piece.old.items ≡ MOST_READ }
     ensures turns { TurnsHalves E result (means_of now work.old) (callers halves.old loose.old.items (homes records.old.items work.old)) (callers halves.new loose.new.items (homes records.new.items work.new)) }
     ensures consistent { (made : List SocketId) (entity : ℕ) → AreConsistent (supply_of work.old) entity (sessions_of made (callers halves.old loose.old.items (homes records.old.items work.old))) → AreConsistent (supply_of work.new) entity (sessions_of made (callers halves.new loose.new.items (homes records.new.items work.new))) }
     ensures peers { map peer_of records.new.items ≡ map peer_of records.old.items }
     ensures room { length halves.new ≤ vec_capacity loose.new - vec_len loose.new }
     ensures number_place { work.new.number_pass.now.place ≡ work.old.number_pass.now.place }
-    ensures take_place { work.new.take_pass.now.place ≡ work.old.take_pass.now.place }
+    ensures takes { ArePassesOf work.new.throttles.now work.new.passes.now }
     ensures same { IsSameWork work.old work.new }
     ensures number_pass { work.new.number_pass.ghost_name ≡ work.old.number_pass.ghost_name }
-    ensures take_pass { work.new.take_pass.ghost_name ≡ work.old.take_pass.ghost_name }
+    ensures passes { work.new.passes.ghost_name ≡ work.old.passes.ghost_name }
     ensures piece { length piece.new.items ≡ length piece.old.items }
 {
     turn_halves(
@@ -349,9 +349,9 @@ fn step_all<P: Port, D: Dispatcher>(
     now: u64,
 ) -> RecordsTurn
     requires numbers { work.old.number_pass.now.place ≡ work.old.numbers.now.place }
-    requires takes { work.old.take_pass.now.place ≡ work.old.throttle.now.place }
+    requires takes { ArePassesOf work.old.throttles.now work.old.passes.now }
     requires supplied { AllByRecursion (IsSupplied (supply_of work.old) (P.seen port.old).made) records.old.items }
-    requires out { OwnsAll work.old.throttle.now.place out.old }
+    requires out { OwnsAll (places work.old.throttles.now) out.old }
     ensures turns { TurnsEach D.heard (means_of now work.old) result (all_amid records.old.items (around (P.seen port.old) out.old work.old)) (all_amid records.new.items (around (P.seen port.new) out.new work.new)) }
     ensures handed { SaysMore handed.old handed.new (handed_in records.old.items) (handed_in records.new.items) }
     ensures supplied { AllByRecursion (IsSupplied (supply_of work.new) (P.seen port.new).made) records.new.items }
@@ -359,12 +359,12 @@ fn step_all<P: Port, D: Dispatcher>(
     ensures keeps { AllKeepCallers (P.seen port.old).made records.old.items records.new.items }
     ensures made { MadeOn (P.seen port.old).made (P.seen port.new).made }
     ensures reached { KeepsReached work.old.number_pass.now work.new.number_pass.now }
-    ensures out { OwnsAll work.old.throttle.now.place out.new }
+    ensures out { OwnsAll (places work.old.throttles.now) out.new }
     ensures number_place { work.new.number_pass.now.place ≡ work.old.number_pass.now.place }
-    ensures take_place { work.new.take_pass.now.place ≡ work.old.take_pass.now.place }
+    ensures takes { ArePassesOf work.new.throttles.now work.new.passes.now }
     ensures same { IsSameWork work.old work.new }
     ensures number_pass { work.new.number_pass.ghost_name ≡ work.old.number_pass.ghost_name }
-    ensures take_pass { work.new.take_pass.ghost_name ≡ work.old.take_pass.ghost_name }
+    ensures passes { work.new.passes.ghost_name ≡ work.old.passes.ghost_name }
 {
     turn_each(records.as_mut_slice(), port, out, work, handed, now)
 }

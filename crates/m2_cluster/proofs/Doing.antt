@@ -10,14 +10,14 @@ use Rattle.m2_cluster.specs.Cluster.{ClusterNow, OneDoes}
 use Rattle.m2_cluster.specs.Node.{NodeNow, NodePlans, NodeTurns}
 
 module _ {D : Type 0} (was old : NodeNow D) (same : was ≡ old) (new : CenterNow D) where
-  pub turns_so : (E : Type 0) (heard : D → List Heard) (now : ℕ) (a : Answer) → TakesTurn E heard (means_at now was.numbers was.throttle) a was.center new →
+  pub turns_so : (E : Type 0) (heard : D → List Heard) (now : ℕ) (a : Answer) → TakesTurn E heard (means_at now was.numbers was.throttles) a was.center new →
       NodeTurns E heard now a old (record was { center = new })
   turns_so E heard now a h =
-      subst (λ (o : NodeNow D). NodeTurns E heard now a o (record was { center = new })) same (record { turns = h; shared = record { numbers = refl; throttle = refl } })
+      subst (λ (o : NodeNow D). NodeTurns E heard now a o (record was { center = new })) same (record { turns = h; shared = record { numbers = refl; throttles = refl } })
 
-  pub plans_so : (a : Answer) (peer : ℕ) (step : PlanStep) (now : ℕ) → PlansIn a peer step now was.throttle.place was.center new → NodePlans a peer step now old (record was { center = new })
+  pub plans_so : (a : Answer) (peer : ℕ) (step : PlanStep) (now : ℕ) → PlansIn a peer step now was.throttles was.center new → NodePlans a peer step now old (record was { center = new })
   plans_so a peer step now h =
-      subst (λ (o : NodeNow D). NodePlans a peer step now o (record was { center = new })) same (record { plans = h; shared = record { numbers = refl; throttle = refl } })
+      subst (λ (o : NodeNow D). NodePlans a peer step now o (record was { center = new })) same (record { plans = h; shared = record { numbers = refl; throttles = refl } })
 
 module _ {D : Type 0} (was old : ClusterNow D) (same : was ≡ old) (n : ℕ) (x : NodeNow D) (read : x ≡ get_or was.nodes n x) (within : n < length old.nodes) where
   there : slice_get old.nodes n ≡ Some x

@@ -14,23 +14,24 @@ use Rattle.m2_center.specs.m2_record.IsRecord.{IsRecord}
 use Rattle.m2_center.specs.m2_record.RecordNow.{ids_of}
 use Rattle.m2_center.specs.m2_record.Sources.{end_at}
 use Rattle.m2_dispatch.specs.m2_shared.Numbers.{SeenNumbers}
-use Rattle.m2_dispatch.specs.m2_shared.Throttle.{SeenThrottle}
+use Rattle.m2_dispatch.specs.m2_shared.Gates.{pass_places, places}
+use Rattle.m2_dispatch.specs.m2_shared.declared.throttles.Throttles.{Throttles}
 use Rattle.m2_center.specs.Center.{CenterNow, IsCenter}
 use Rattle.m2_center.specs.CenterTurn.{Answer, TakesTurn, means_at}
 use Rattle.m2_center.specs.Plans.{PlansIn}
 use Rattle.m2_center.specs.Reaching.{all_ends_in, ends_in, rest_in, waiting_at}
 use Rattle.m2_center.specs.m2_turn.Halves.{AreWhole}
 
--- its center, its counter of global numbers and its throttle
+-- its center, its counter of global numbers and its throttles
 pub record NodeNow (D : Type 0) : Type 0 where
   pub center : CenterNow D
   pub numbers : SeenNumbers
-  pub throttle : SeenThrottle
+  pub throttles : Throttles
 
 -- the passes of its center are to what it shares
 pub record IsNode {D : Type 0} (n : NodeNow D) : Type 0 where
   pub numbers : n.center.numbers.place ≡ n.numbers.place
-  pub throttle : n.center.bytes.place ≡ n.throttle.place
+  pub throttles : pass_places n.center.bytes ≡ places n.throttles
 
 -- What a node in memory keeps: its center is one, each of its records is one, and the trail of each half tells all that its end
 -- did; each socket that its port made comes from the port's address or goes to it; and its port and all its ends are in memory.
@@ -132,18 +133,18 @@ rest_of_node n = record n { center = record (rest_in n.center) { port = rest_at 
 -- what it shares is the same
 pub record KeepsShared {D : Type 0} (old new : NodeNow D) : Type 0 where
   pub numbers : new.numbers ≡ old.numbers
-  pub throttle : new.throttle ≡ old.throttle
+  pub throttles : new.throttles ≡ old.throttles
 
 -- ---- a turn, and a step that is planned
 
 -- its center takes a turn; what it shares is the same
 pub record NodeTurns {D : Type 0} (E : Type 0) (heard : D → List Heard) (now : ℕ) (answer : Answer) (old new : NodeNow D) : Type 0 where
-  pub turns : TakesTurn E heard (means_at now old.numbers old.throttle) answer old.center new.center
+  pub turns : TakesTurn E heard (means_at now old.numbers old.throttles) answer old.center new.center
   pub shared : KeepsShared old new
 
 -- its center's first record towards the peer plans the step and takes it; what it shares is the same
 pub record NodePlans {D : Type 0} (answer : Answer) (peer : ℕ) (step : PlanStep) (now : ℕ) (old new : NodeNow D) : Type 0 where
-  pub plans : PlansIn answer peer step now old.throttle.place old.center new.center
+  pub plans : PlansIn answer peer step now old.throttles old.center new.center
   pub shared : KeepsShared old new
 
 -- its port has waited for something to do, which may have failed

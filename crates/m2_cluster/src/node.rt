@@ -11,6 +11,7 @@ ghost use Rattle.m2_edge.specs.Faults.{HasCause};
 ghost use Rattle.m2_fabric.specs.Log.{log_of};
 ghost use Rattle.m2_center.specs.m2_record.IsRecord.{CanBePlanned};
 ghost use Rattle.m2_center.specs.m2_record.Sources.{end_at};
+ghost use Rattle.m2_dispatch.specs.m2_shared.Gates.{pass_places, places};
 
 use m2_bytes::NoMemory;
 use m2_center::{Center, CenterTurn, NodeShared};
@@ -20,7 +21,7 @@ use m2_fabric::{EndLog, MemoryEnd, MemoryPort, News, Port, SocketId, SocketIdLis
 use m2_journal::PlanStep;
 use std::marker::Model;
 
-/// A node with one center, and its counter of global numbers and its throttle.
+/// A node with one center, and its counter of global numbers and its throttles.
 ///
 /// Maker: [`new`](Node::new). Looks: [`center`](Node::center), [`shared`](Node::shared); what one in memory keeps says
 /// [`is_whole`](Node::is_whole). Calls: [`turn`](Node::turn), and [`poll`](Node::poll) to wait for the next one. The end:
@@ -35,17 +36,17 @@ impl<P: Port, D> Model for Node<P, D> {
 
     ghost Value = { NodeNow D };
 
-    ghost view = { λ n. record { center = n.center; numbers = n.shared.numbers; throttle = n.shared.throttle } };
+    ghost view = { λ n. record { center = n.center; numbers = n.shared.numbers; throttles = n.shared.throttles } };
 
-    ghost invariant = { λ n. IsNode (record { center = n.center; numbers = n.shared.numbers; throttle = n.shared.throttle }) };
+    ghost invariant = { λ n. IsNode (record { center = n.center; numbers = n.shared.numbers; throttles = n.shared.throttles }) };
 }
 
 impl<P: Port, D> Node<P, D> {
     /// A node of a center whose passes are to what its threads share.
     pub fn new(center: Center<P, D>, shared: NodeShared) -> Node<P, D>
         requires numbers { center.numbers.place ≡ shared.numbers.place }
-        requires throttle { center.bytes.place ≡ shared.throttle.place }
-        ensures { result ≡ record { center = center; numbers = shared.numbers; throttle = shared.throttle } }
+        requires throttles { pass_places center.bytes ≡ places shared.throttles }
+        ensures { result ≡ record { center = center; numbers = shared.numbers; throttles = shared.throttles } }
     {
         Node { center, shared }
     }
@@ -60,7 +61,7 @@ impl<P: Port, D> Node<P, D> {
     /// What its threads share.
     pub fn shared(&self) -> &NodeShared
         ensures numbers { result.now.numbers ≡ self.now.numbers }
-        ensures throttle { result.now.throttle ≡ self.now.throttle }
+        ensures throttles { result.now.throttles ≡ self.now.throttles }
     {
         &self.shared
     }
@@ -69,9 +70,9 @@ impl<P: Port, D> Node<P, D> {
     pub fn into_parts(self) -> (Center<P, D>, NodeShared)
         ensures center { result.0 ≡ self.center }
         ensures shared_numbers { result.1.numbers ≡ self.numbers }
-        ensures shared_throttle { result.1.throttle ≡ self.throttle }
+        ensures shared_throttles { result.1.throttles ≡ self.throttles }
         ensures numbers { self.center.numbers.place ≡ self.numbers.place }
-        ensures throttle { self.center.bytes.place ≡ self.throttle.place }
+        ensures throttles { pass_places self.center.bytes ≡ places self.throttles }
     {
         let Node { center, shared } = self;
         (center, shared)

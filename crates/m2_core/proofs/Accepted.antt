@@ -1,6 +1,5 @@
 -- The message at the front is accepted: the core and the replay go on alike.
 use Rattle.std.proofs.Common.{◌≡◌, ℕ, ◌+◌, true, false, [], ◌∷◌, ◌++◌, length, Option, Some, None, Ok, refl, sym, ap, subst, ◌∙◌, arith}
-use Rattle.std.specs.Option.{is_some}
 use Rattle.std.proofs.lemmas.Bool.{lt-leb}
 use Rattle.m2_feed.specs.Calls.{IsFront}
 use Rattle.m2_feed.specs.FeedNow.{FeedNow, Reading, framing, shaking}
@@ -22,8 +21,9 @@ use Rattle.m2_message.specs.Message.{Content, content_of}
 use Rattle.m2_policy.specs.declared.path.Key.{Key}
 use Rattle.m2_session.specs.declared.session.Phase.TheVariants.{Ready}
 use Rattle.m2_session.specs.Phases as phase
-use Rattle.m2_shared.specs.Throttle.{SeenGrant}
-use Rattle.m2_core.specs.LiveNow.{LiveNow, OnFeedNow, granted_in, granted_on, size_granted}
+use Rattle.m2_shared.specs.declared.peer_grants.PeerGrants.{PeerGrants}
+use Rattle.m2_core.specs.LiveNow.{AreFor, LiveNow, OnFeedNow, asked_in, asked_on, is_granted_in, is_granted_on}
+use Rattle.m2_shared.specs.Gates.{is_whole}
 use Rattle.m2_core.specs.OnFeed.{Hears, PassesItem}
 use Rattle.m2_core.specs.LiveCalls.{passed_live}
 use Rattle.m2_core.specs.LiveAccepting.{LiveAccepts, MovesMessage, accepted_live}
@@ -35,7 +35,7 @@ use Rattle.m2_core.specs.Front.{HearsOn, hearer_at, hearer_of}
 use Rattle.m2_core.proofs.Agreeing.{IsResumed}
 use Rattle.m2_core.proofs.Fronts.{as_replayed}
 use Rattle.m2_core.proofs.Passed.{sound_on}
-use Rattle.m2_bytes.proofs.m2_lemmas.Options.{none_isnt_some, some_isnt_none}
+use Rattle.m2_bytes.proofs.m2_lemmas.Options.{some_isnt_none}
 use Rattle.m2_feed.proofs.Heeding.{is_ready}
 
 -- ---- what was granted
@@ -43,38 +43,24 @@ use Rattle.m2_feed.proofs.Heeding.{is_ready}
 abbrev bytes_of : Parts → ℕ
 bytes_of f = length f.second + length f.third + length f.fourth
 
-granted_there : AsksForItsSize → (r : Reading) (f : Parts) (len : ℕ) → f.tag ≡ message_tag → IsFront r (whole f) len → granted_in r ≡ Some (bytes_of f)
-granted_there law (framing rest true) f len tag i = law.message rest f len i.1 tag
+granted_there : AsksForItsSize → (r : Reading) (f : Parts) (len : ℕ) → f.tag ≡ message_tag → IsFront r (whole f) len → (is_granted_in r ≡ true) × (asked_in r ≡ Some (bytes_of f))
+granted_there law (framing rest true) f len tag i = (refl, law.message rest f len i.1 tag)
 granted_there law (framing rest false) f len tag i = absurd (some_isnt_none (bytes_of f) (sym (law.message rest f len i.1 tag) ∙ i.0))
 granted_there law (shaking s) f len tag i = absurd i
 
-granted_to : (g : Option SeenGrant) (n : ℕ) → size_granted g ≡ Some n → (k : SeenGrant) × (g ≡ Some k) × (k.n ≡ n)
-granted_to (Some k) n e = (k, refl, cc)
-granted_to None n e = absurd (none_isnt_some n e)
-
-granted_front : AsksForItsSize → (f : Parts) (x y : Option FeedNow) → f.tag ≡ message_tag → PassesItem (whole f) x y → granted_on x ≡ Some (bytes_of f)
+granted_front : AsksForItsSize → (f : Parts) (x y : Option FeedNow) → f.tag ≡ message_tag → PassesItem (whole f) x y → (is_granted_on x ≡ true) × (asked_on x ≡ Some (bytes_of f))
 granted_front law f (Some v) (Some new) tag p = granted_there law v.reading f p.0.len tag p.0.front
 granted_front law f (Some v) None tag p = absurd p
 granted_front law f None y tag p = absurd p
 
 held_for : BringsMessages → AsksForItsSize → (c : CoreNow) (n : ℕ) (m : Content) (y : Option FeedNow) → Holds c → MovesMessage (hearer_of c) n m c.live.feed y →
-    (k : SeenGrant) × (c.live.granted ≡ Some k) × (k.n ≡ length m.front + length m.middle + length m.tail)
+    (is_whole c.live.granted ≡ true) × AreFor (Some (length m.front + length m.middle + length m.tail)) c.live.granted
 held_for law sizes c n m y h v =
     let is = law (hearer_of c) v.frame n v.says in
-    let g = granted_to c.live.granted (bytes_of v.frame) (h.sound.grant ∙ granted_front sizes v.frame c.live.feed y is.tag v.passes) in
-    (g.0, g.1, g.2 ∙ ap (λ (c : Content). length c.front + length c.middle + length c.tail) (sym v.message))
-
--- a message stands at the front only where its size is held
-granted_at : BringsMessages → AsksForItsSize → (h : Hearer) (n : ℕ) (x : Option FeedNow) → OnFeedNow x (λ v. Hears h (Brings n) v.reading) → (k : ℕ) × (granted_on x ≡ Some k)
-granted_at law sizes h n (Some v) k = (bytes_of k.frame, granted_there sizes v.reading k.frame k.len (law h k.frame n k.says).tag k.front)
-granted_at law sizes h n None k = absurd k
-
-some_of_size : (g : Option SeenGrant) (n : ℕ) → size_granted g ≡ Some n → is_some g ≡ true
-some_of_size (Some k) n e = refl
-some_of_size None n e = absurd (none_isnt_some n e)
-
-pub is_granted : BringsMessages → AsksForItsSize → (c : CoreNow) (n : ℕ) → Holds c → HearsOn c (Brings n) → is_some c.live.granted ≡ true
-is_granted law sizes c n h a = let k = granted_at law sizes (hearer_of c) n c.live.feed a in some_of_size c.live.granted k.0 (h.sound.grant ∙ k.1)
+    let g = granted_front sizes v.frame c.live.feed y is.tag v.passes in
+    let size : asked_on c.live.feed ≡ Some (length m.front + length m.middle + length m.tail) =
+    g.1 ∙ ap (λ (c : Content). Some (length c.front + length c.middle + length c.tail)) (sym v.message) in
+    (h.sound.told ∙ g.0, subst (λ (o : Option ℕ). AreFor o c.live.granted) size h.sound.grant)
 
 pub is_heard : (c : CoreNow) (n : ℕ) → HearsOn c (Brings n) → (h : Hearer) × OnFeedNow c.live.feed (λ v. Hears h (Brings n) v.reading)
 is_heard c n a = (hearer_of c, a)
@@ -149,13 +135,11 @@ handed_on law f s n key m i (Some v) None d k p st = absurd p
 handed_on law f s n key m i None y d k p st = absurd p
 
 accepts_it : IsHeardAsReplayed → BringsMessages → AsksForItsSize → TakesBeside → ChangesBeside → (c : CoreNow) (a : CoreAccepted) (y : Option FeedNow) → Holds c →
-    MovesMessage (hearer_of c) a.number (content_of a.message) c.live.feed y → a.life ≡ c.live.life → a.key ≡ key_of c.facts (content_of a.message) → c.live.granted ≡ Some a.grant →
+    MovesMessage (hearer_of c) a.number (content_of a.message) c.live.feed y → a.life ≡ c.live.life → a.key ≡ key_of c.facts (content_of a.message) → c.live.granted ≡ a.grants →
     Accepts a c (accepted a.number y c)
 accepts_it law bringing sizes takes changes c a y h v life key g =
     let m = content_of a.message in
     let k = held_for bringing sizes c a.number m y h v in
-    let held = k.1 in
-    let same : k.0 ≡ a.grant = cc in
     let next : IsNextMessage (hearer_of c) a.number (said (whole v.frame)) =
     subst (λ (x : FrameHeard). IsAsReplayed x (hearer_of c) (said (whole v.frame))) v.says (law (hearer_of c) (whole v.frame)) in
     record {
@@ -163,8 +147,9 @@ accepts_it law bringing sizes takes changes c a y h v life key g =
       number = next.next;
       life = life;
       key = key;
-      grant = g;
-      size = ap (λ (x : SeenGrant). x.n) (sym same) ∙ k.2;
+      grants = g;
+      whole = ap is_whole (sym g) ∙ k.0;
+      size = subst (λ (x : PeerGrants). AreFor (Some (length m.front + length m.middle + length m.tail)) x) g k.1;
       only = refl;
       may = λ s b. may_on takes c.facts s a.number a.key m (whole v.frame) c.live.feed y s.feed (next_at law bringing c s a.number m y b v) key v.passes b.feed;
       hands_out = λ s b.
@@ -174,13 +159,13 @@ accepts_it law bringing sizes takes changes c a y h v life key g =
     }
 
 -- the same, as the code comes to it
-pub accepts_to : IsHeardAsReplayed → BringsMessages → AsksForItsSize → TakesBeside → ChangesBeside → (c : CoreNow) (n life : ℕ) (key : Key) (m : Message) (g : SeenGrant) (l : LiveNow) → Holds c →
+pub accepts_to : IsHeardAsReplayed → BringsMessages → AsksForItsSize → TakesBeside → ChangesBeside → (c : CoreNow) (n life : ℕ) (key : Key) (m : Message) (g : PeerGrants) (l : LiveNow) → Holds c →
     HearsOn c (Brings n) → LiveAccepts (Ok (m, g)) n c.live l → life ≡ c.live.life → ((f : SideFacts) → f.node ≡ c.facts.node → (k : Content) → k.header ≡ m.header → key ≡ key_of f k) →
-    HasAccepted (Ok (record { number = n; life = life; key = key; message = m; grant = g })) n c (record c { live = l; owes = true })
+    HasAccepted (Ok (record { number = n; life = life; key = key; message = m; grants = g })) n c (record c { live = l; owes = true })
 accepts_to law bringing sizes takes changes c n life key m g l h a k same e = (
   refl,
-  subst (λ (x : LiveNow). Accepts (record { number = n; life = life; key = key; message = m; grant = g }) c (record c { live = x; owes = true })) (sym k.2)
-      (accepts_it law bringing sizes takes changes c (record { number = n; life = life; key = key; message = m; grant = g }) l.feed h (k.0 (hearer_of c) a) same (e c.facts refl (content_of m) refl) k.1),
+  subst (λ (x : LiveNow). Accepts (record { number = n; life = life; key = key; message = m; grants = g }) c (record c { live = x; owes = true })) (sym k.2)
+      (accepts_it law bringing sizes takes changes c (record { number = n; life = life; key = key; message = m; grants = g }) l.feed h (k.0 (hearer_of c) a) same (e c.facts refl (content_of m) refl) k.1),
 )
 
 -- ---- what holds of each core
@@ -191,5 +176,5 @@ sound_last l n h = record { fed = h.fed; asked = h.asked; connect = h.connect; n
 keeps : (c : CoreNow) (n : ℕ) (m : Content) (y : Option FeedNow) → Holds c → MovesMessage (hearer_of c) n m c.live.feed y → Holds (accepted n y c)
 keeps c n m y h v = record { place = h.place; sound = sound_last (passed_live y c.live) n (sound_on c.live (whole v.frame) c.live.feed y v.passes h.sound) }
 
-pub keeps_to : (c : CoreNow) (n : ℕ) (m : Message) (g : SeenGrant) (l : LiveNow) → Holds c → HearsOn c (Brings n) → LiveAccepts (Ok (m, g)) n c.live l → Holds (record c { live = l; owes = true })
+pub keeps_to : (c : CoreNow) (n : ℕ) (m : Message) (g : PeerGrants) (l : LiveNow) → Holds c → HearsOn c (Brings n) → LiveAccepts (Ok (m, g)) n c.live l → Holds (record c { live = l; owes = true })
 keeps_to c n m g l h a k = subst (λ (x : LiveNow). Holds (record c { live = x; owes = true })) (sym k.2) (keeps c n (content_of m) l.feed h (k.0 (hearer_of c) a))

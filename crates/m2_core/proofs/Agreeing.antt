@@ -13,13 +13,13 @@ use Rattle.m2_journal.specs.Steps.{after}
 use Rattle.m2_message.specs.Message.{Content}
 use Rattle.m2_queues.specs.OutQueues.{Queue}
 use Rattle.m2_session.specs.declared.session.Session.{Session}
-use Rattle.m2_shared.specs.Throttle.{SeenGrant}
+use Rattle.m2_shared.specs.declared.peer_grants.PeerGrants.{PeerGrants}
 use Rattle.m2_core.specs.LiveCalls.{after_posted}
 use Rattle.m2_core.specs.Agrees.{Agrees, FeedsAgree, IsTold, LeadsOn}
 use Rattle.m2_core.specs.CoreNow.{CoreNow}
 
 -- the core that has just what a replay has, with this room, feed and grant
-abbrev pub core_of : SideFacts → State → (spare resumed : ℕ) → Option FeedNow → Option SeenGrant → CoreNow
+abbrev pub core_of : SideFacts → State → (spare resumed : ℕ) → Option FeedNow → PeerGrants → CoreNow
 core_of f s n r x g = record {
   facts = f;
   live = record {
@@ -36,7 +36,7 @@ core_of f s n r x g = record {
   top = s.top;
 }
 
-abbrev core_with : SideFacts → Session → Queue → (last life : ℕ) → (owes dials : Bool) → (top spare resumed : ℕ) → Option FeedNow → Option SeenGrant → CoreNow
+abbrev core_with : SideFacts → Session → Queue → (last life : ℕ) → (owes dials : Bool) → (top spare resumed : ℕ) → Option FeedNow → PeerGrants → CoreNow
 core_with f t p m v a b w n r x g = record {
   facts = f;
   live = record { session = t; out = record { queue = p; spare = n }; last = m; life = v; resumed = r; feed = x; granted = g };
@@ -45,7 +45,7 @@ core_with f t p m v a b w n r x g = record {
   top = w;
 }
 
-made : (f : SideFacts) (s t : Session) (q p : Queue) (l m k v : ℕ) (o a d b : Bool) (u w n r : ℕ) (x : Option FeedNow) (g : Option SeenGrant) →
+made : (f : SideFacts) (s t : Session) (q p : Queue) (l m k v : ℕ) (o a d b : Bool) (u w n r : ℕ) (x : Option FeedNow) (g : PeerGrants) →
     s ≡ t → q ≡ p → l ≡ m → k ≡ v → o ≡ a → d ≡ b → u ≡ w → core_with f t p m v a b w n r x g ≡ core_with f s q l k o d u n r x g
 made f s t q p l m k v o a d b u w n r x g e1 e2 e3 e4 e5 e6 e7 = rw (e1, e2, e3, e4, e5, e6, e7) refl
 

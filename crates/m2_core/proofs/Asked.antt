@@ -26,7 +26,7 @@ use Rattle.m2_session.specs.declared.session.Session.{Session}
 use Rattle.m2_feed.specs.declared.writing.Writing.TheVariants as writing
 use Rattle.m2_session.specs.declared.event.Event.{Event}
 use Rattle.m2_session.specs.Steps.{step_of}
-use Rattle.m2_shared.specs.Throttle.{SeenGrant}
+use Rattle.m2_shared.specs.declared.peer_grants.PeerGrants.{PeerGrants}
 use Rattle.m2_core.specs.LiveNow.{LiveNow, OnFeedNow}
 use Rattle.m2_core.specs.OnFeed.{CanAsk, ChangesRoom, ComposesAsk}
 use Rattle.m2_core.specs.LiveAsking.{AsksNow, IsAsk, ask_len, asked_event, filled}
@@ -93,7 +93,7 @@ asked_core b number new c = record c {
 }
 
 module _ (composes : ComposesBeside) (changes : ChangesBeside) (number : ℕ) (v new : FeedNow) (can : CanAsk v) where
-  landed : (b : Bool) (f : SideFacts) (s : State) (n r : ℕ) (g : Option SeenGrant) (y : Option Feed) → s.session.phase ≡ Connecting →
+  landed : (b : Bool) (f : SideFacts) (s : State) (n r : ℕ) (g : PeerGrants) (y : Option Feed) → s.session.phase ≡ Connecting →
       ComposesAsk (frame_text (filled (step_of s.session (asked_event b (cookie_of f number))).session.client_cookie number
       (ask_of f (core_of f (record s { feed = y }) n r (Some v) g).live b 0 0))) (Some v) (Some new) →
       FeedsAgree f (record s { feed = y }) (Some v) y → IsResumed r y →

@@ -12,7 +12,7 @@ use Rattle.m2_queues.specs.OutQueues.{waits}
 use Rattle.m2_session.specs.declared.event.Event.TheVariants as event
 use Rattle.m2_session.specs.declared.session.Phase.TheVariants.{Ready}
 use Rattle.m2_session.specs.Phases as phase
-use Rattle.m2_shared.specs.Throttle.{SeenGrant}
+use Rattle.m2_shared.specs.declared.peer_grants.PeerGrants.{PeerGrants}
 use Rattle.m2_core.specs.LiveNow.{LiveNow, OnFeedNow, is_waiting}
 use Rattle.m2_core.specs.Effects.{has_effects, tells}
 use Rattle.m2_core.specs.LiveCalls.{after_fault}
@@ -30,7 +30,7 @@ abbrev faulty : (lossy server idle lost : Bool) → State → State
 faulty lossy server idle lost s = record (replay.has_effects (fault_by lossy server idle s.session).1
     (record s { session = record (fault_by lossy server idle s.session).0 { lost_ready = lost } })) { spent = s.spent }
 
-faulted_at : (lossy server idle lost : Bool) (f : SideFacts) (s : State) (n r : ℕ) (v : FeedNow) (g : Option SeenGrant) (d : Feed) →
+faulted_at : (lossy server idle lost : Bool) (f : SideFacts) (s : State) (n r : ℕ) (v : FeedNow) (g : PeerGrants) (d : Feed) →
     Agrees (record (core_of f s n r (Some v) g) { live = faulty_live lossy server idle lost (core_of f s n r (Some v) g).live })
     (faulty lossy server idle lost (record s { feed = Some d }))
 faulted_at true server idle lost f s n r v g d = record { session = refl; queue = refl; last = refl; life = refl; owes = refl; dials = refl; top = refl; feed = tt; resumed = inl refl }
@@ -41,7 +41,7 @@ faulted_at false false false lost f s n r v g d = record { session = refl; queue
 pub is_on_feed : (f : SideFacts) (s : State) (v : FeedNow) (d : Feed) → Stands f s v d → same_socket v.end.id d.socket ≡ true
 is_on_feed f s v d st = subst (λ k. same_socket v.end.id k ≡ true) st.socket (same_refl v.end.id)
 
-closing : (f : SideFacts) (s : State) (n r : ℕ) (v : FeedNow) (g : Option SeenGrant) (y : Option Feed) → FeedsAgree f (record s { feed = y }) (Some v) y →
+closing : (f : SideFacts) (s : State) (n r : ℕ) (v : FeedNow) (g : PeerGrants) (y : Option Feed) → FeedsAgree f (record s { feed = y }) (Some v) y →
     Agrees (record (core_of f s n r (Some v) g) { live = after_fault (core_of f s n r (Some v) g).live })
     (replay.closes_socket v.end.id (record s { feed = y }))
 closing f s n r v g (Some d) st = rw (is_on_feed f (record s { feed = Some d }) v d st)

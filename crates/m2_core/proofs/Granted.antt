@@ -1,5 +1,7 @@
--- The size of a MESSAGE is granted: the replay knows nothing of it.
-use Rattle.std.proofs.Common.{◌≡◌, ℕ, Bool, true, false, List, Option, Some, None, refl, sym, ap, ◌∙◌}
+-- What is granted for a MESSAGE: the replay knows nothing of it.
+use Rattle.std.proofs.Common.{◌≡◌, ℕ, Bool, true, false, List, Option, Some, None, refl, sym, ap, ◌∙◌, subst}
+use Rattle.std.specs.Prelude.{◌&&◌}
+use Rattle.std.specs.Option.{is_some}
 use Rattle.std.proofs.lemmas.Bool.{true≢false}
 use Rattle.m2_feed.specs.Calls.{Owes, with_grant}
 use Rattle.m2_feed.specs.FeedNow.{FeedNow, Reading, framing, shaking}
@@ -11,13 +13,22 @@ use Rattle.m2_journal.specs.State.{Feed, State}
 use Rattle.m2_session.specs.declared.session.Phase.TheVariants.{Ready}
 use Rattle.m2_session.specs.declared.session.Session.{Session}
 use Rattle.m2_session.specs.Phases as phase
-use Rattle.m2_shared.specs.Place.{Place}
-use Rattle.m2_shared.specs.Throttle.{SeenGrant, SeenThrottle}
-use Rattle.m2_core.specs.LiveNow.{LiveNow, OnFeedNow, granted_in, granted_on, is_ready, size_granted}
+use Rattle.m2_shared.specs.Gates.{AsksPeer, by_stage, is_whole, pass_in, throttle_in}
+use Rattle.m2_shared.specs.More.{Course, Goes, passes, is_full, had_changed, unasked, course}
+use Rattle.m2_shared.specs.Stages.{amount, grant_at}
+use Rattle.m2_shared.specs.Taking.{Taking, taking}
+use Rattle.m2_shared.specs.Throttle.{SeenGrant}
+use Rattle.m2_shared.specs.declared.more.More.{More}
+use Rattle.m2_shared.specs.declared.more.More.TheVariants as more
+use Rattle.m2_shared.specs.declared.peer_grants.PeerGrants.{PeerGrants}
+use Rattle.m2_shared.specs.declared.peer_type.PeerType.{PeerType}
+use Rattle.m2_shared.specs.declared.stage.Stage.{Stage}
+use Rattle.m2_shared.specs.declared.stage.Stage.TheVariants.{Messages, Bytes, Dispatch}
+use Rattle.m2_core.specs.LiveNow.{AreFor, IsAmount, LiveNow, OnFeedNow, is_ready}
 use Rattle.m2_core.specs.OnFeed.{granted_feed}
 use Rattle.m2_core.specs.Agrees.{FeedsAgree, Stays}
 use Rattle.m2_core.specs.CoreNow.{CoreNow, Holds, IsSound}
-use Rattle.m2_core.specs.Granting.{Grants, after_granted}
+use Rattle.m2_core.specs.Granting.{AsksMissing, HasAsked, Throttled, after_asked}
 use Rattle.m2_bytes.proofs.m2_lemmas.Options.{none_isnt_some}
 
 -- a size that is owed is the one that is asked for, and isn't granted
@@ -51,9 +62,9 @@ granted_beside f s n (Some v) (Some d) o q st = record { socket = st.socket; ope
 granted_beside f s n (Some v) None o q st = absurd st
 granted_beside f s n None d o q st = absurd o
 
-stays : (c : CoreNow) (n : ℕ) (place : Place) → is_ready c.live ≡ true → OnFeedNow c.live.feed (λ v. Owes v.reading n) →
-    Stays c (record c { live = after_granted place n c.live })
-stays c n place ready o s a = record {
+stays : (c : CoreNow) (n : ℕ) (answer : More) (g : PeerGrants) → is_ready c.live ≡ true → OnFeedNow c.live.feed (λ v. Owes v.reading n) →
+    Stays c (record c { live = after_asked answer g c.live })
+stays c n more.Whole g ready o s a = record {
   session = a.session;
   queue = a.queue;
   last = a.last;
@@ -64,45 +75,143 @@ stays c n place ready o s a = record {
   feed = granted_beside c.facts s n c.live.feed s.feed o (ap (λ (t : Session). phase.is t.phase Ready) (sym a.session) ∙ ready) a.feed;
   resumed = a.resumed;
 }
+stays c n (more.Full stage out) g ready o s a = record {
+  session = a.session;
+  queue = a.queue;
+  last = a.last;
+  life = a.life;
+  owes = a.owes;
+  dials = a.dials;
+  top = a.top;
+  feed = a.feed;
+  resumed = a.resumed;
+}
+stays c n (more.Again stage seen now) g ready o s a = record {
+  session = a.session;
+  queue = a.queue;
+  last = a.last;
+  life = a.life;
+  owes = a.owes;
+  dials = a.dials;
+  top = a.top;
+  feed = a.feed;
+  resumed = a.resumed;
+}
 
-pub grants : (c : CoreNow) (n : ℕ) (t : SeenThrottle) → is_ready c.live ≡ true → OnFeedNow c.live.feed (λ v. Owes v.reading n) → Grants t n c (record c { live = after_granted t.place n c.live })
-grants c n t ready o = record { only = refl; stays = stays c n t.place ready o }
+pub has_asked : (c : CoreNow) (n : ℕ) (answer : More) (t : Throttled) (l : LiveNow) → is_ready c.live ≡ true → OnFeedNow c.live.feed (λ v. Owes v.reading n) → AsksMissing answer t n c.live l →
+    HasAsked answer t n c (record c { live = l })
+has_asked c n answer t l ready o k = record {
+  asks = k.asks;
+  only = ap (λ (x : LiveNow). record c { live = x }) k.only;
+  stays = subst (λ (x : LiveNow). Stays c (record c { live = x })) (sym k.only) (stays c n answer l.granted ready o);
+}
+
+-- ---- what was granted
+
+-- a stage that is asked for n grants n
+goes_amount : (c : Course) (t : Taking) (n : ℕ) (before after : Option SeenGrant) → Goes c t n before after → IsAmount n before → IsAmount n after
+goes_amount passes t n (Some g) after k a = subst (IsAmount n) (sym k.0) a
+goes_amount passes t n None after k a = subst (IsAmount n) (sym k.0) refl
+goes_amount (is_full out) t n before after k a = subst (IsAmount n) (sym k.1) tt
+goes_amount (had_changed seen now) t n before after k a = subst (IsAmount n) (sym k.1) tt
+goes_amount unasked t n before after k a = subst (IsAmount n) (sym k.0) a
+
+goes_granted : (t : Taking) (n : ℕ) (before after : Option SeenGrant) → Goes passes t n before after → is_some after ≡ true
+goes_granted t n (Some g) after k = ap is_some k.0
+goes_granted t n None after k = ap is_some k.0
+
+-- what is done at a stage of such peers
+abbrev at_stage : Throttled → PeerType → Stage → Taking
+at_stage t peer stage = taking (by_stage peer (throttle_in t.throttles) stage) (by_stage peer (pass_in t.before) stage) (by_stage peer (pass_in t.behind) stage)
+
+amounts : (answer : More) (n : ℕ) (t : Throttled) (before after : PeerGrants) → AsksPeer answer n t.throttles t.before t.behind before after → AreFor (Some n) before → AreFor (Some n) after
+amounts answer n t before after k a stage =
+    goes_amount (course answer stage) (at_stage t before.peer stage) (amount stage n) (grant_at before.grants stage) (grant_at after.grants stage) (k.asks stage) (a stage)
+
+abbrev is_given : More → Bool
+is_given more.Whole = true
+is_given (more.Full stage out) = false
+is_given (more.Again stage seen now) = false
+
+all_of : (x y z : Bool) → x ≡ true → y ≡ true → z ≡ true → (x && y && z) ≡ true
+all_of x y z a b c = rw (a, b, c) refl
+
+not_first : (x y z : Bool) → x ≡ false → (x && y && z) ≡ false
+not_first x y z a = rw a refl
+
+not_second : (x y z : Bool) → x ≡ true → y ≡ false → (x && y && z) ≡ false
+not_second x y z a b = rw (a, b) refl
+
+not_third : (x y z : Bool) → x ≡ true → y ≡ true → z ≡ false → (x && y && z) ≡ false
+not_third x y z a b c = rw (a, b, c) refl
+
+-- each stage has granted exactly where the answer is Whole
+whole_after : (answer : More) (n : ℕ) (t : Throttled) (before after : PeerGrants) → AsksPeer answer n t.throttles t.before t.behind before after → is_whole after ≡ is_given answer
+whole_after answer n t before after k = at answer k
+  where
+    given : (stage : Stage) → Goes passes (at_stage t before.peer stage) (amount stage n) (grant_at before.grants stage) (grant_at after.grants stage) → is_some (grant_at after.grants stage) ≡ true
+    given stage g = goes_granted (at_stage t before.peer stage) (amount stage n) (grant_at before.grants stage) (grant_at after.grants stage) g
+
+    at : (a : More) → AsksPeer a n t.throttles t.before t.behind before after → is_whole after ≡ is_given a
+    at more.Whole k = all_of _ _ _ (given Messages (k.asks Messages)) (given Bytes (k.asks Bytes)) (given Dispatch (k.asks Dispatch))
+    at (more.Full Messages out) k = not_first _ _ _ (ap is_some (k.asks Messages).1)
+    at (more.Full Bytes out) k = not_second _ _ _ (given Messages (k.asks Messages)) (ap is_some (k.asks Bytes).1)
+    at (more.Full Dispatch out) k = not_third _ _ _ (given Messages (k.asks Messages)) (given Bytes (k.asks Bytes)) (ap is_some (k.asks Dispatch).1)
+    at (more.Again Messages seen now) k = not_first _ _ _ (ap is_some (k.asks Messages).1)
+    at (more.Again Bytes seen now) k = not_second _ _ _ (given Messages (k.asks Messages)) (ap is_some (k.asks Bytes).1)
+    at (more.Again Dispatch seen now) k = not_third _ _ _ (given Messages (k.asks Messages)) (given Bytes (k.asks Bytes)) (ap is_some (k.asks Dispatch).1)
 
 -- ---- what holds of each core
 
-sound_on : (l : LiveNow) (x : Option FeedNow) (n : ℕ) (place : Place) → OnFeedNow x (λ v. Owes v.reading n) → is_ready l ≡ true → IsSound (record l { feed = x }) →
-    IsSound (record l { feed = granted_feed x; granted = Some (record { place = place; n = n }) })
-sound_on l (Some v) n place o ready h = by_reading v.reading o
+-- what a size that is owed needs, of what was held for it
+sized : (rest : List ℕ) (granted : Bool) (n : ℕ) (before after : PeerGrants) → Owes (framing rest granted) n → (AreFor (Some n) before → AreFor (Some n) after) → AreFor (size_of rest) before →
+    AreFor (size_of rest) after
+sized rest granted n before after o amounts_stay a =
+    let size = (owed_size rest granted n o).1 in
+    subst (λ (x : Option ℕ). AreFor x after) (sym size) (amounts_stay (subst (λ (x : Option ℕ). AreFor x before) size a))
+
+sound_on : (answer : More) (l : LiveNow) (x : Option FeedNow) (n : ℕ) (g : PeerGrants) → OnFeedNow x (λ v. Owes v.reading n) → is_ready l ≡ true →
+    (AreFor (Some n) l.granted → AreFor (Some n) g) → is_whole g ≡ is_given answer → IsSound (record l { feed = x }) → IsSound (after_asked answer g (record l { feed = x }))
+sound_on answer l (Some v) n g o ready stay whole h = by_reading v.reading o h
   where
-    by_reading : (r : Reading) → Owes r n → IsSound (record l { feed = Some (record v { reading = with_grant r }); granted = Some (record { place = place; n = n }) })
-    by_reading (framing rest granted) w = record {
-      fed = h.fed;
-      asked = λ e. absurd (true≢false e);
-      connect = h.connect;
-      numbers = h.numbers;
-      grant = sym (owed_size rest granted n w).1;
-      told = refl;
-      ungranted = λ e. absurd (true≢false (sym ready ∙ e));
+    by_answer : (rest : List ℕ) (granted : Bool) (a : More) → Owes (framing rest granted) n → is_whole g ≡ is_given a →
+        IsSound (record l { feed = Some (record v { reading = framing rest granted }) }) → IsSound (after_asked a g (record l { feed = Some (record v { reading = framing rest granted }) }))
+    by_answer rest granted more.Whole w e k = record {
+      fed = k.fed;
+      asked = λ z. absurd (true≢false z);
+      connect = k.connect;
+      numbers = k.numbers;
+      grant = sized rest granted n l.granted g w stay k.grant;
+      told = e;
+      ungranted = λ z. absurd (true≢false (sym ready ∙ z));
     }
-    by_reading (shaking s) w = absurd w
-sound_on l None n place o ready h = absurd o
+    by_answer rest granted (more.Full stage out) w e k = record {
+      fed = k.fed;
+      asked = λ z. absurd (true≢false z);
+      connect = k.connect;
+      numbers = k.numbers;
+      grant = sized rest granted n l.granted g w stay k.grant;
+      told = e ∙ sym (owed_size rest granted n w).0;
+      ungranted = λ z. absurd (true≢false (sym ready ∙ z));
+    }
+    by_answer rest granted (more.Again stage seen now) w e k = record {
+      fed = k.fed;
+      asked = λ z. absurd (true≢false z);
+      connect = k.connect;
+      numbers = k.numbers;
+      grant = sized rest granted n l.granted g w stay k.grant;
+      told = e ∙ sym (owed_size rest granted n w).0;
+      ungranted = λ z. absurd (true≢false (sym ready ∙ z));
+    }
 
-pub keeps : (c : CoreNow) (l : LiveNow) (n : ℕ) (place : Place) → Holds c → is_ready c.live ≡ true → OnFeedNow c.live.feed (λ v. Owes v.reading n) → l ≡ after_granted place n c.live →
+    by_reading : (r : Reading) → Owes r n → IsSound (record l { feed = Some (record v { reading = r }) }) → IsSound (after_asked answer g (record l { feed = Some (record v { reading = r }) }))
+    by_reading (framing rest granted) w k = by_answer rest granted answer w whole k
+    by_reading (shaking s) w k = absurd w
+sound_on answer l None n g o ready stay whole h = absurd o
+
+pub keeps : (c : CoreNow) (n : ℕ) (answer : More) (t : Throttled) (l : LiveNow) → Holds c → is_ready c.live ≡ true → OnFeedNow c.live.feed (λ v. Owes v.reading n) → AsksMissing answer t n c.live l →
     Holds (record c { live = l })
-keeps c l n place h ready o e = rw e (record { place = h.place; sound = sound_on c.live c.live.feed n place o ready h.sound })
-
--- nothing is held where a size is owed
-ungranted_on : (x : Option FeedNow) (n : ℕ) → OnFeedNow x (λ v. Owes v.reading n) → granted_on x ≡ None
-ungranted_on (Some v) n o = by_reading v.reading o
-  where
-    by_reading : (r : Reading) → Owes r n → granted_in r ≡ None
-    by_reading (framing rest granted) w = ap (λ (b : Bool). granted_in (framing rest b)) (owed_size rest granted n w).0
-    by_reading (shaking s) w = absurd w
-ungranted_on None n o = absurd o
-
-none_of_size : (g : Option SeenGrant) → size_granted g ≡ None → g ≡ None
-none_of_size (Some g) e = let never : ⊥ = cc in absurd never
-none_of_size None e = refl
-
-pub none_held : (c : CoreNow) (n : ℕ) → Holds c → OnFeedNow c.live.feed (λ v. Owes v.reading n) → c.live.granted ≡ None
-none_held c n h o = none_of_size c.live.granted (h.sound.grant ∙ ungranted_on c.live.feed n o)
+keeps c n answer t l h ready o k = subst (λ (x : LiveNow). Holds (record c { live = x })) (sym k.only) (record {
+  place = h.place;
+  sound = sound_on answer c.live c.live.feed n l.granted o ready (amounts answer n t c.live.granted l.granted k.asks) (whole_after answer n t c.live.granted l.granted k.asks) h.sound;
+})

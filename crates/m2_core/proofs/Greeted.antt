@@ -1,5 +1,5 @@
 -- An answer of the opener's half: the replay has come so far before.
-use Rattle.std.proofs.Common.{◌≡◌, true, false, Option, Some, None, refl, sym, ap, ◌∙◌}
+use Rattle.std.proofs.Common.{◌≡◌, ℕ, true, false, Option, Some, None, refl, sym, ap, subst, ◌∙◌}
 use Rattle.m2_feed.specs.Calls.{GreetsOn}
 use Rattle.m2_feed.specs.FeedNow.{FeedNow, is_framing}
 use Rattle.m2_feed.specs.FeedLaws.{FindsFaults, GreetsBeside}
@@ -8,7 +8,8 @@ use Rattle.m2_handshake.specs.declared.answer.HalfStep.TheVariants as half
 use Rattle.m2_journal.specs.Lawful.{OnFeedAt, is_broken}
 use Rattle.m2_journal.specs.SideFacts.{SideFacts}
 use Rattle.m2_journal.specs.State.{Feed, State}
-use Rattle.m2_core.specs.LiveNow.{LiveNow, granted_in, is_granted_in}
+use Rattle.m2_core.specs.LiveNow.{AreFor, LiveNow, asked_in, is_granted_in}
+use Rattle.m2_core.proofs.Holding.{none_for}
 use Rattle.m2_core.specs.OnFeed.{GreetsFeed}
 use Rattle.m2_core.specs.LiveCalls.{live_with}
 use Rattle.m2_core.specs.Agrees.{FeedsAgree}
@@ -69,23 +70,15 @@ untold half.Wrote v new w = (ap is_granted_in w.stood, ap (λ x. is_granted_in x
 untold (half.Fault e) v new w = (ap is_granted_in w.stood, ap (λ x. is_granted_in x.reading) w.leaves)
 untold half.NoMemory v new w = (ap is_granted_in w.stood, ap (λ x. is_granted_in x.reading) w.leaves)
 
-ungranted : (answer : HalfStep) (v new : FeedNow) → GreetsOn answer v new → (granted_in v.reading ≡ None) × (granted_in new.reading ≡ None)
-ungranted half.Authed v new w = (ap granted_in w.stood, ap (λ x. granted_in x.reading) w.leaves)
-ungranted half.NotYet v new w = (ap granted_in w.stood, ap (λ x. granted_in x.reading) w.leaves)
-ungranted half.Wrote v new w = (ap granted_in w.stood, ap (λ x. granted_in x.reading) w.leaves)
-ungranted (half.Fault e) v new w = (ap granted_in w.stood, ap (λ x. granted_in x.reading) w.leaves)
-ungranted half.NoMemory v new w = (ap granted_in w.stood, ap (λ x. granted_in x.reading) w.leaves)
-
 sound_on : (answer : HalfStep) (l : LiveNow) (x y : Option FeedNow) → GreetsFeed answer x y → IsSound (live_with x l) → IsSound (live_with y l)
 sound_on answer l (Some v) (Some new) w h =
-    let none = ungranted answer v new w in
     let silent = untold answer v new w in
     record {
       fed = h.fed;
       asked = λ e. h.asked (ap is_framing w.stood);
       connect = h.connect;
       numbers = h.numbers;
-      grant = h.grant ∙ none.0 ∙ sym none.1;
+      grant = none_for (asked_in new.reading) l.granted (subst (λ (o : Option ℕ). AreFor o l.granted) (ap asked_in w.stood) h.grant);
       told = h.told ∙ silent.0 ∙ sym silent.1;
       ungranted = h.ungranted;
     }

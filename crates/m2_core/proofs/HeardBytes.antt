@@ -1,7 +1,6 @@
 -- Bytes that are read: what holds of each core holds again.
-use Rattle.std.proofs.Common.{◌≡◌, ℕ, Bool, true, false, List, ◌++◌, length, take, Option, Some, None, refl, sym, ap, ◌∙◌, arith, inl, inr}
+use Rattle.std.proofs.Common.{◌≡◌, ℕ, Bool, true, false, List, ◌++◌, length, take, Option, Some, None, refl, sym, ap, subst, ◌∙◌, arith, inl, inr}
 use Rattle.std.specs.Prelude.{◌⊎◌, nat_lt}
-use Rattle.std.specs.Option.{is_some}
 use Rattle.std.proofs.lemmas.Bool.Decides.{nat_tests}
 use Rattle.m2_fabric.specs.declared.end.EndRead.{EndRead}
 use Rattle.m2_fabric.specs.declared.end.EndRead.TheVariants as read
@@ -9,8 +8,9 @@ use Rattle.m2_feed.specs.Calls.{ReadsOn, heard}
 use Rattle.m2_feed.specs.FeedNow.{FeedNow, Reading, framing, shaking, is_framing}
 use Rattle.m2_frame.proofs.Judge.{size_of-settled, size_of-short}
 use Rattle.m2_frame.specs.Reading.{size_of}
-use Rattle.m2_shared.specs.Throttle.{SeenGrant}
-use Rattle.m2_core.specs.LiveNow.{LiveNow, granted_in, is_granted_in, size_granted}
+use Rattle.m2_shared.specs.declared.peer_grants.PeerGrants.{PeerGrants}
+use Rattle.m2_core.specs.LiveNow.{AreFor, LiveNow, asked_in, is_granted_in}
+use Rattle.m2_core.proofs.Holding.{none_for}
 use Rattle.m2_core.specs.OnFeed.{ReadsFeed}
 use Rattle.m2_core.specs.LiveCalls.{live_with}
 use Rattle.m2_core.specs.CoreNow.{CoreNow, Holds, IsSound}
@@ -25,21 +25,20 @@ heard_told bytes (shaking s) = refl
 heard_told bytes (framing rest granted) = refl
 
 -- a size that is asked for stays asked for
-size_stays : (rest bytes : List ℕ) (n : ℕ) → size_of rest ≡ Some n → size_of (rest ++ bytes) ≡ size_of rest
+pub size_stays : (rest bytes : List ℕ) (n : ℕ) → size_of rest ≡ Some n → size_of (rest ++ bytes) ≡ size_of rest
 size_stays rest bytes n e = by_length (nat_lt (length rest) 32) refl
   where
     by_length : (b : Bool) → nat_lt (length rest) 32 ≡ b → size_of (rest ++ bytes) ≡ size_of rest
     by_length true is = absurd (none_isnt_some n (sym (size_of-short rest (grind (arith, nat_tests))) ∙ e))
     by_length false is = size_of-settled rest bytes (grind (arith, nat_tests))
 
-granted_stays : (g : Option SeenGrant) (r : Reading) (bytes : List ℕ) → size_granted g ≡ granted_in r → is_some g ≡ is_granted_in r → size_granted g ≡ granted_in (heard bytes r)
-granted_stays g (shaking s) bytes e t = e
-granted_stays g (framing rest false) bytes e t = e
-granted_stays (Some x) (framing rest true) bytes e t = e ∙ sym (size_stays rest bytes x.n (sym e))
-granted_stays None (framing rest true) bytes e t = absurd (apart t)
+granted_stays : (g : PeerGrants) (r : Reading) (bytes : List ℕ) → AreFor (asked_in r) g → AreFor (asked_in (heard bytes r)) g
+granted_stays g (shaking s) bytes k = k
+granted_stays g (framing rest granted) bytes k = at (size_of rest) refl k
   where
-    apart : false ≡ true → ⊥
-    apart z = cc
+    at : (o : Option ℕ) → size_of rest ≡ o → AreFor o g → AreFor (size_of (rest ++ bytes)) g
+    at (Some n) e k = subst (λ (o : Option ℕ). AreFor o g) (sym (size_stays rest bytes n e ∙ e)) k
+    at None e k = none_for (size_of (rest ++ bytes)) g k
 
 -- what was read is heard, or nothing was
 abbrev pub Reads : FeedNow → FeedNow → Type 0
@@ -67,7 +66,7 @@ sound_by l v new (inr r) h = record {
   asked = λ q. h.asked (sym (heard_framing r.0 v.reading) ∙ sym (ap is_framing r.1) ∙ q);
   connect = h.connect;
   numbers = h.numbers;
-  grant = granted_stays l.granted v.reading r.0 h.grant h.told ∙ sym (ap granted_in r.1);
+  grant = subst (λ (x : Reading). AreFor (asked_in x) l.granted) (sym r.1) (granted_stays l.granted v.reading r.0 h.grant);
   told = h.told ∙ sym (heard_told r.0 v.reading) ∙ sym (ap is_granted_in r.1);
   ungranted = h.ungranted;
 }

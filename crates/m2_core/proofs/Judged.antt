@@ -42,8 +42,12 @@ use Rattle.m2_session.specs.Reconnect.{Reconnect, reconnect_answer, reconnect_ro
 use Rattle.m2_session.specs.Steps.{HasFollower, is_lawful}
 use Rattle.m2_session.proofs.Answers.{answers_are_lawful_lem}
 use Rattle.m2_session.proofs.Rows.{each_answer}
-use Rattle.m2_shared.specs.Throttle.{SeenGrant}
-use Rattle.m2_core.specs.LiveNow.{LiveNow, held}
+use Rattle.m2_shared.specs.declared.peer_grants.PeerGrants.{PeerGrants}
+use Rattle.m2_core.specs.LiveNow.{HoldsNothing, LiveNow, asked_in}
+use Rattle.m2_shared.specs.Gates.{Return, Stay, held, places, words}
+use Rattle.m2_shared.specs.declared.throttles.TakePasses.{TakePasses}
+use Rattle.m2_shared.specs.declared.throttles.Throttles.{Throttles}
+use Rattle.m2_core.proofs.Holding.{none_at, nothing_for}
 use Rattle.m2_core.specs.Effects.{closed_if, closed_of, effects_of}
 use Rattle.m2_core.specs.LiveCalls.{resumed_by_ask, tells_if, with_taken}
 use Rattle.m2_core.proofs.Agreeing.{IsResumed, agreed, core_of, feeds_as, leads_by}
@@ -323,7 +327,7 @@ some_frame c v is t e = none_some (e ∙ frame_of_verdict c v is t)
 abbrev answering : (number : ℕ) → Option Event → CoreNow → CoreNow
 answering number o c = record c { live = tells_if o c.live; top = number }
 
-answered_at : ChangesBeside → (o : Option Event) → IsQuiet o → (f : SideFacts) (s : State) (n r number : ℕ) (x : Option FeedNow) (g : Option SeenGrant) (y : Option Feed)
+answered_at : ChangesBeside → (o : Option Event) → IsQuiet o → (f : SideFacts) (s : State) (n r number : ℕ) (x : Option FeedNow) (g : PeerGrants) (y : Option Feed)
     (k : SocketId) (a : AskFacts) (given : Answer) → FeedsAgree f (record s { feed = y }) x y → IsResumed r y →
     Agrees (answering number o (core_of f (record s { feed = y }) n r x g))
     (replay.sends k (replies_of given) (replay.tells_if o (replay.notes k a number given (record s { feed = y }))))
@@ -389,7 +393,7 @@ abbrev ask_by : (ident : Bool) → (client server global connect seen : ℕ) →
 ask_by ident client server global connect seen = record { ident = ident; client = client; server = server; global = global; connect = connect; seen = seen }
 
 module _ (law : TakesOverBeside) (end : SeenEnd) (unread : List ℕ) (d : FeedNow) where
-  taken_at : (b full : Bool) (client server global connect seen kept : ℕ) (given : Answer) (f : SideFacts) (s : State) (n r number : ℕ) (x : Option FeedNow) (g : Option SeenGrant) (y : Option Feed) →
+  taken_at : (b full : Bool) (client server global connect seen kept : ℕ) (given : Answer) (f : SideFacts) (s : State) (n r number : ℕ) (x : Option FeedNow) (g : PeerGrants) (y : Option Feed) →
       d ≡ at_acceptance end unread false (out.text_of f (acceptance_by b f number s.last)) d →
       Agrees (taking number (resumed_by_ask (ask_by b client server global connect seen)) (Some (took b full (ask_by b kept server global connect seen) (cookie_of f number))) d (core_of f (record s { feed = y }) n r x g))
       (replay.takes_socket f end.id (ask_by b client server global connect seen) number unread
@@ -465,9 +469,9 @@ keeps_answering c v o l h t e g = record { place = h.place; sound = rw (g, e) (q
 
 taken_sound : (b full : Bool) (a : AskFacts) (server resumed : ℕ) (d : FeedNow) (rest : List ℕ) (l : LiveNow) → a.connect ≤ GREATEST_NUMBER → d.reading ≡ framing rest false → IsSound l →
     IsSound (with_taken (Some (took b full a server)) d resumed l)
-taken_sound true true a server resumed d rest l n r h = record { fed = refl; asked = rw r (λ e. cc); connect = omega arith; numbers = omega arith; grant = rw r refl; told = rw r refl; ungranted = λ _. refl }
-taken_sound true false a server resumed d rest l n r h = let m = h.numbers in record { fed = refl; asked = rw r (λ e. cc); connect = omega arith; numbers = omega (arith, m); grant = rw r refl; told = rw r refl; ungranted = λ _. refl }
-taken_sound false full a server resumed d rest l n r h = record { fed = refl; asked = rw r (λ e. cc); connect = omega (arith, n); numbers = h.numbers; grant = rw r refl; told = rw r refl; ungranted = λ _. refl }
+taken_sound true true a server resumed d rest l n r h = record { fed = refl; asked = rw r (λ e. cc); connect = omega arith; numbers = omega arith; grant = nothing_for (asked_in d.reading) l.granted.peer; told = rw r refl; ungranted = λ _. refl }
+taken_sound true false a server resumed d rest l n r h = let m = h.numbers in record { fed = refl; asked = rw r (λ e. cc); connect = omega arith; numbers = omega (arith, m); grant = nothing_for (asked_in d.reading) l.granted.peer; told = rw r refl; ungranted = λ _. refl }
+taken_sound false full a server resumed d rest l n r h = record { fed = refl; asked = rw r (λ e. cc); connect = omega (arith, n); numbers = h.numbers; grant = nothing_for (asked_in d.reading) l.granted.peer; told = rw r refl; ungranted = λ _. refl }
 
 holds_by : (o : Option Event) (e : Event) (d : FeedNow) (resumed : ℕ) (l : LiveNow) → o ≡ Some e → IsSound (with_taken (Some e) d resumed l) → IsSound (with_taken o d resumed l)
 holds_by o e d resumed l i h = rw i h
@@ -522,9 +526,9 @@ pending_idle phase.Ready e = cc
 pending_idle phase.Standby e = refl
 pending_idle phase.Wait e = refl
 
-nothing_by : (o : Option Event) → IsQuiet o → (l : LiveNow) → IsSound l → IfSome o (λ e. IsTrue (is_lawful l.session e)) → (effects_of o l.session).close ≡ true → held l.granted ≡ 0
+nothing_by : (o : Option Event) → IsQuiet o → (l : LiveNow) → IsSound l → IfSome o (λ e. IsTrue (is_lawful l.session e)) → (effects_of o l.session).close ≡ true → HoldsNothing l.granted
 nothing_by None q l h row e = cc
-nothing_by (Some event.Pending) q l h row e = rw (h.ungranted (pending_idle l.session.phase row)) refl
+nothing_by (Some event.Pending) q l h row e = h.ungranted (pending_idle l.session.phase row)
 nothing_by (Some event.Dialled) q l h row e = absurd q
 nothing_by (Some (event.AskedIdent cookie)) q l h row e = absurd q
 nothing_by (Some event.AskedReconnect) q l h row e = absurd q
@@ -541,14 +545,16 @@ nothing_by (Some event.MarkedDown) q l h row e = absurd q
 
 -- where a pending socket is closed nothing was granted
 pub holds_nothing : (c : CoreNow) (v : Verdict) (o : Option Event) → Holds c → IsVerdict v c → takes v.answer ≡ false → o ≡ told_of c.facts v →
-    (effects_of o c.live.session).close ≡ true → held c.live.granted ≡ 0
+    (effects_of o c.live.session).close ≡ true → HoldsNothing c.live.granted
 holds_nothing c v o h is t e = nothing_by o (rw e (told_refusing c v t)) c.live h.sound (lawful c v o is e)
 
 by_closing : (close : Bool) (old new n : ℕ) → (close ≡ true → n ≡ 0) → (close ≡ true → new ≡ old - n) → (close ≡ false → new ≡ old) → new ≡ old
 by_closing true old new n none lowers same = let z = none refl in let w = lowers refl in omega (arith, z, w)
 by_closing false old new n none lowers same = same refl
 
--- the word of the throttle stays
-pub word_stays : (c : CoreNow) (v : Verdict) (o : Option Event) (old new : ℕ) → Holds c → IsVerdict v c → takes v.answer ≡ false → o ≡ told_of c.facts v →
-    ((effects_of o c.live.session).close ≡ true → new ≡ old - held c.live.granted) → ((effects_of o c.live.session).close ≡ false → new ≡ old) → new ≡ old
-word_stays c v o old new h is t e lowers same = by_closing (effects_of o c.live.session).close old new (held c.live.granted) (holds_nothing c v o h is t e) lowers same
+-- the words of the throttles stay
+pub word_stays : (c : CoreNow) (v : Verdict) (o : Option Event) (t : Throttles) (old new : TakePasses) → Holds c → IsVerdict v c → takes v.answer ≡ false → o ≡ told_of c.facts v →
+    ((effects_of o c.live.session).close ≡ true → Return (held c.live.granted) t old new) → ((effects_of o c.live.session).close ≡ false → new ≡ old) → Stay t old new
+word_stays c v o t old new h is refuses e lowers same gate alone =
+    by_closing (effects_of o c.live.session).close (words old gate) (words new gate) (held c.live.granted gate)
+    (λ b. none_at c.live.granted (holds_nothing c v o h is refuses e b) gate) (λ b. lowers b gate alone) (λ b. ap (λ (p : TakePasses). words p gate) (same b))

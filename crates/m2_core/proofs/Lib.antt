@@ -11,6 +11,7 @@ pub mod Heard
 pub mod HeardBytes
 pub mod Heeded
 pub mod Helds
+pub mod Holding
 pub mod Judged
 pub mod Listening
 pub mod LiveAccepted

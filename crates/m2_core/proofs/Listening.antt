@@ -34,7 +34,7 @@ use Rattle.m2_session.specs.declared.session.Phase.{Phase}
 use Rattle.m2_session.specs.declared.session.Phase.TheVariants.{IdentSent, ReconnectSent, Ready}
 use Rattle.m2_session.specs.declared.session.Session.{Session}
 use Rattle.m2_session.specs.Phases as phase
-use Rattle.m2_shared.specs.Throttle.{SeenGrant}
+use Rattle.m2_shared.specs.declared.peer_grants.PeerGrants.{PeerGrants}
 use Rattle.m2_core.specs.LiveNow.{LiveNow}
 use Rattle.m2_core.specs.Effects.{closed_if}
 use Rattle.m2_core.specs.OnFeed.{PassesFeed, ReadsFeed}
@@ -86,7 +86,7 @@ no_stamp f p _ e q = refl
 ready_unheard : (f : SideFacts) (p : Phase) (x : Option Said) → phase.is p Ready ≡ true → answer_event f p x ≡ None
 ready_unheard f p x q = subst (λ z. answer_event f z x ≡ None) (sym (is_the_phase p q)) refl
 
-module _ (takes : TakesBeside) (changes : ChangesBeside) (tells : HearsTold) (f : SideFacts) (t : State) (n r : ℕ) (g : Option SeenGrant) (new passed : FeedNow) (d : Feed)
+module _ (takes : TakesBeside) (changes : ChangesBeside) (tells : HearsTold) (f : SideFacts) (t : State) (n r : ℕ) (g : PeerGrants) (new passed : FeedNow) (d : Feed)
     (x : Parts) (len : ℕ) (q : is_ready t ≡ false) (front : IsFront new.reading (whole x) len) (p : PassesFrame new.reading passed.reading) (only : OnlyReads new passed)
     (st : Stands f t new d) (resumed : IsResumed r (Some d)) (stamp : stamp_of (said (whole x)) ≡ None) where
   abbrev taker : Heard → CoreNow

@@ -19,24 +19,25 @@ use Rattle.m2_journal.specs.Items as item
 use Rattle.m2_session.specs.declared.session.Phase.TheVariants.{Ready}
 use Rattle.m2_session.specs.Phases as phase
 use Rattle.m2_shared.specs.declared.limits.TheConstants.{MOST_TAKEN}
-use Rattle.m2_shared.specs.Throttle.{SeenTakePass, SeenThrottle}
 use Rattle.m2_core.specs.LiveNow.{OnFeedNow, is_ready}
 use Rattle.m2_core.specs.OnFeed.{Hears, PassesItem}
 use Rattle.m2_core.specs.LiveCalls.{after_fault}
-use Rattle.m2_core.specs.declared.granting.CoreGrant.{CoreGrant}
-use Rattle.m2_core.specs.declared.granting.CoreGrant.TheVariants as grant
+use Rattle.m2_shared.specs.declared.more.More.{More}
+use Rattle.m2_shared.specs.declared.more.More.TheVariants as more
+use Rattle.m2_shared.specs.declared.throttles.TakePasses.{TakePasses}
+use Rattle.m2_shared.specs.declared.throttles.Throttles.{Throttles}
 use Rattle.m2_core.specs.declared.next.CoreNext.{CoreNext}
 use Rattle.m2_core.specs.declared.next.CoreNext.TheVariants as next
 use Rattle.m2_core.specs.declared.resting.CoreRest.TheVariants as rest
 use Rattle.m2_core.specs.Agrees.{IsBroken, LeadsOn}
 use Rattle.m2_core.specs.CoreNow.{CoreNow}
 use Rattle.m2_core.specs.Front.{FrontHeard, HearsOn, asks, before_front, front_in, front_of, heard_by, hearer_of, rests, resumption_at, resumption_of, tells}
-use Rattle.m2_core.specs.Granting.{HasGranted, Throttled}
+use Rattle.m2_core.specs.Granting.{HasAsked, Throttled}
 use Rattle.m2_core.specs.Next.{CanHeed, Closes, IsNext, IsResetHeard, MayObeyIfReset, RestSays, granted_next, size_front}
 use Rattle.m2_core.specs.Passing.{HasPassed, PassesHeard}
 use Rattle.m2_core.proofs.Heeded.{bad_breaks, may_close, resumed_breaks}
 use Rattle.m2_bytes.proofs.m2_lemmas.Options.{none_isnt_some}
-use Rattle.m2_core.proofs.Helds.{same_mid}
+use Rattle.m2_core.proofs.Helds.{same_mid, with_passes}
 
 pub is_fed : (x : Option FeedNow) → OnFeedNow x (λ v. is_framing v.reading ≡ true) → is_some x ≡ true
 is_fed (Some v) h = refl
@@ -169,27 +170,24 @@ pub rest_breaks : FindsFaults → (c mid : CoreNow) (e : FrameFault) → OnFeedN
 rest_breaks law c mid e r =
     subst (λ (k : CoreNow). IsBroken k) (sym (same_mid c mid c.live.feed (λ v. IsBad v.reading e) r)) (bad_breaks law c e (first_on c mid c.live.feed (λ v. IsBad v.reading e) r))
 
--- the pass is as it was then, too
-abbrev with_passes : SeenThrottle → (before behind : SeenTakePass) → Throttled
-with_passes t before behind = record { throttle = t; before = before; behind = behind }
-
-pub next_faulted : (p : SeenThrottle) (u m w : SeenTakePass) (a : CoreNext) (c mid new : CoreNow) (e : FrameFault) → OnFeedNow c.live.feed (λ v. RestSays (rest.Fault e) v.reading c mid) → m ≡ u →
+-- the passes are as they were then, too
+pub next_faulted : (p : Throttles) (u m w : TakePasses) (a : CoreNext) (c mid new : CoreNow) (e : FrameFault) → OnFeedNow c.live.feed (λ v. RestSays (rest.Fault e) v.reading c mid) → m ≡ u →
     IsNext (with_passes p m w) a (tells (Fault (fault.Frame e))) mid new → OnFeedNow c.live.feed (λ v. IsNext (with_passes p u w) a (front_of (hearer_of c) v.reading) c new)
 next_faulted p u m w a c mid new e r q n =
     let t = with_passes p u w in
     let same = same_mid c mid c.live.feed (λ v. IsBad v.reading e) r in
-    let from_u : IsNext t a (tells (Fault (fault.Frame e))) mid new = subst (λ (k : SeenTakePass). IsNext (with_passes p k w) a (tells (Fault (fault.Frame e))) mid new) q n in
+    let from_u : IsNext t a (tells (Fault (fault.Frame e))) mid new = subst (λ (k : TakePasses). IsNext (with_passes p k w) a (tells (Fault (fault.Frame e))) mid new) q n in
     let from_c : IsNext t a (tells (Fault (fault.Frame e))) c new = subst (λ (k : CoreNow). IsNext t a (tells (Fault (fault.Frame e))) k new) same from_u in
     map_on c.live.feed (λ v. IsBad v.reading e) (λ v. IsNext t a (front_of (hearer_of c) v.reading) c new)
     (λ v k. subst (λ (x : FrontHeard). IsNext t a x c new) (sym (bad_front (hearer_of c) v.reading e k)) from_c)
     (first_on c mid c.live.feed (λ v. IsBad v.reading e) r)
 
-pub next_sized : (p : SeenThrottle) (u m w : SeenTakePass) (a : CoreNext) (c mid new : CoreNow) (n : ℕ) → OnFeedNow c.live.feed (λ v. RestSays (rest.Asks n) v.reading c mid) → m ≡ u →
+pub next_sized : (p : Throttles) (u m w : TakePasses) (a : CoreNext) (c mid new : CoreNow) (n : ℕ) → OnFeedNow c.live.feed (λ v. RestSays (rest.Asks n) v.reading c mid) → m ≡ u →
     IsNext (with_passes p m w) a (size_front (is_ready mid.live) n) mid new → OnFeedNow c.live.feed (λ v. IsNext (with_passes p u w) a (front_of (hearer_of c) v.reading) c new)
 next_sized p u m w a c mid new n r q x =
     let t = with_passes p u w in
     let same = same_mid c mid c.live.feed (λ v. Owes v.reading n) r in
-    let from_u : IsNext t a (size_front (is_ready mid.live) n) mid new = subst (λ (k : SeenTakePass). IsNext (with_passes p k w) a (size_front (is_ready mid.live) n) mid new) q x in
+    let from_u : IsNext t a (size_front (is_ready mid.live) n) mid new = subst (λ (k : TakePasses). IsNext (with_passes p k w) a (size_front (is_ready mid.live) n) mid new) q x in
     let from_c : IsNext t a (size_front (is_ready c.live) n) c new = subst (λ (k : CoreNow). IsNext t a (size_front (is_ready k.live) n) k new) same from_u in
     map_on c.live.feed (λ v. Owes v.reading n) (λ v. IsNext t a (front_of (hearer_of c) v.reading) c new)
     (λ v k. subst (λ (y : FrontHeard). IsNext t a y c new) (sym (owed_front (hearer_of c) v.reading n k)) from_c)
@@ -214,12 +212,12 @@ pub size_fed : (x : Option FeedNow) (n : ℕ) → OnFeedNow x (λ v. Owes v.read
 size_fed (Some v) n o = refl
 size_fed None n o = absurd o
 
-next_of_grant : (t : Throttled) (g : CoreGrant) (c new : CoreNow) (n : ℕ) → HasGranted g t n c new → IsNext t (granted_next g) (asks n) c new
-next_of_grant t grant.Granted c new n h = h
-next_of_grant t (grant.Full held) c new n h = h
-next_of_grant t (grant.Again seen now) c new n h = h
+next_of_grant : (t : Throttled) (g : More) (c new : CoreNow) (n : ℕ) → HasAsked g t n c new → IsNext t (granted_next g) (asks n) c new
+next_of_grant t more.Whole c new n h = h
+next_of_grant t (more.Full stage out) c new n h = h
+next_of_grant t (more.Again stage seen now) c new n h = h
 
-pub next_granted : (t : Throttled) (g : CoreGrant) (c new : CoreNow) (n : ℕ) → is_ready c.live ≡ true → HasGranted g t n c new → IsNext t (granted_next g) (size_front (is_ready c.live) n) c new
+pub next_granted : (t : Throttled) (g : More) (c new : CoreNow) (n : ℕ) → is_ready c.live ≡ true → HasAsked g t n c new → IsNext t (granted_next g) (size_front (is_ready c.live) n) c new
 next_granted t g c new n q h = subst (λ (b : Bool). IsNext t (granted_next g) (size_front b n) c new) (sym q) (next_of_grant t g c new n h)
 
 pub next_early : (t : Throttled) (a : CoreNext) (c new : CoreNow) (n : ℕ) → is_ready c.live ≡ false → IsNext t a (tells (Fault (fault.Unexpected message_tag))) c new →

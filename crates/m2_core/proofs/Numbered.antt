@@ -22,7 +22,7 @@ use Rattle.m2_queues.proofs.Unsent.{next-is_at_cursor}
 use Rattle.m2_queues.specs.QueueLaws.{Next}
 use Rattle.m2_queues.specs.OutQueues.{Outgoing, Queue, after_next, after_sent, last_number, message_at, next_number}
 use Rattle.m2_session.specs.declared.session.Phase.TheVariants.{Ready}
-use Rattle.m2_shared.specs.Throttle.{SeenGrant}
+use Rattle.m2_shared.specs.declared.peer_grants.PeerGrants.{PeerGrants}
 use Rattle.m2_core.specs.LiveNow.{LiveNow, OnFeedNow, is_ready}
 use Rattle.m2_core.specs.OnFeed.{CanWrite, ChangesRoom, ComposesMessage}
 use Rattle.m2_core.specs.LiveNumbering.{Numbers, NumbersOn}
@@ -45,7 +45,7 @@ abbrev with_both : Queue → FeedNow → CoreNow → CoreNow
 with_both q new c = record c { live = record c.live { out = record c.live.out { queue = q }; feed = Some new } }
 
 module _ (composes : ComposesBeside) (changes : ChangesBeside) (k : ℕ) (m : Content) (v new : FeedNow) (can : CanWrite v) where
-  landed : (f : SideFacts) (s : State) (n r : ℕ) (g : Option SeenGrant) (y : Option Feed) →
+  landed : (f : SideFacts) (s : State) (n r : ℕ) (g : PeerGrants) (y : Option Feed) →
       message_at (after_next s.out.queue) k ≡ Some m → (after_next s.out.queue).cursor < length (after_next s.out.queue).kept →
       ComposesMessage k s.last m (Some v) (Some new) → FeedsAgree f (record s { feed = y }) (Some v) y → IsResumed r y →
       Agrees (with_both (after_sent (after_next s.out.queue)) new (core_of f (record s { feed = y }) n r (Some v) g)) (after f (item.numbered k) (record s { feed = y }))

@@ -20,7 +20,7 @@ use Rattle.m2_session.specs.declared.session.Phase.TheVariants.{ReconnectSent}
 use Rattle.m2_session.specs.declared.session.Session.{Session}
 use Rattle.m2_session.specs.Phases.{is_among}
 use Rattle.m2_session.specs.Steps.{is_lawful}
-use Rattle.m2_shared.specs.Throttle.{SeenGrant}
+use Rattle.m2_shared.specs.declared.peer_grants.PeerGrants.{PeerGrants}
 use Rattle.m2_core.specs.LiveNow.{LiveNow}
 use Rattle.m2_core.specs.Effects.{tells}
 use Rattle.m2_core.specs.OnFeed.{PassesFeed}
@@ -48,7 +48,7 @@ module _ (takes : TakesBeside) (changes : ChangesBeside) (law : FramesAreHeard) 
   may_on s (Some v) None k st = absurd st
   may_on s None y k st = absurd k
 
-  obeyed_on : (s : State) (n r : ℕ) (g : Option SeenGrant) (v new : FeedNow) (y : Option Feed) → Fronted f.peer f.policy s.session.phase v (heard.Reset full) →
+  obeyed_on : (s : State) (n r : ℕ) (g : PeerGrants) (v new : FeedNow) (y : Option Feed) → Fronted f.peer f.policy s.session.phase v (heard.Reset full) →
       PassesFeed (Some v) (Some new) → FeedsAgree f (record s { feed = y }) (Some v) y → IsResumed r y →
       Agrees (record (core_of f (record s { feed = y }) n r (Some v) g)
       { live = tells (event.GotReset full) (live_with (Some new) (core_of f (record s { feed = y }) n r (Some v) g).live) })

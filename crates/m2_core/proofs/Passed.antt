@@ -18,7 +18,8 @@ use Rattle.m2_journal.specs.SideFacts.{SideFacts}
 use Rattle.m2_journal.specs.State.{Feed, State}
 use Rattle.m2_session.specs.declared.session.Phase.TheVariants.{Ready}
 use Rattle.m2_session.specs.Phases as phase
-use Rattle.m2_core.specs.LiveNow.{LiveNow, OnFeedNow, granted_in, is_granted_in}
+use Rattle.m2_core.specs.LiveNow.{LiveNow, OnFeedNow, asked_in, is_granted_in}
+use Rattle.m2_core.proofs.Holding.{nothing_for}
 use Rattle.m2_core.specs.OnFeed.{Hears, NotesFeed, PassesFeed, PassesItem}
 use Rattle.m2_core.specs.LiveCalls.{LiveNotes, LivePasses, passed_live}
 use Rattle.m2_core.specs.Agrees.{FeedsAgree, Stays}
@@ -129,23 +130,23 @@ noted_to law passes (Err e) c k l h n = ap (λ (m : LiveNow). record c { live = 
 -- ---- what holds of each core
 
 -- where a text was passed a decoder reads, and nothing is granted
-pub passed_reads : (r : Reading) (item : Item) (len : ℕ) → IsFront r item len → (is_framing (passed len r) ≡ true) × (granted_in (passed len r) ≡ None) × (is_granted_in (passed len r) ≡ false)
-passed_reads (framing rest granted) item len f = (refl, refl, refl)
+pub passed_reads : (r : Reading) (item : Item) (len : ℕ) → IsFront r item len → (is_framing (passed len r) ≡ true) × (is_granted_in (passed len r) ≡ false)
+passed_reads (framing rest granted) item len f = (refl, refl)
 passed_reads (shaking s) item len f = absurd f
 
-reads_after : (r new : Reading) (item : Item) → PassesThe item r new → (is_framing new ≡ true) × (granted_in new ≡ None) × (is_granted_in new ≡ false)
+reads_after : (r new : Reading) (item : Item) → PassesThe item r new → (is_framing new ≡ true) × (is_granted_in new ≡ false)
 reads_after r new item p =
     let k = passed_reads r p.other p.passes.0 p.passes.1 in
-    (ap is_framing p.passes.2 ∙ k.0, ap granted_in p.passes.2 ∙ k.1, ap is_granted_in p.passes.2 ∙ k.2)
+    (ap is_framing p.passes.2 ∙ k.0, ap is_granted_in p.passes.2 ∙ k.1)
 
-sound_with : (l : LiveNow) (v new : FeedNow) → (is_framing new.reading ≡ true) × (granted_in new.reading ≡ None) × (is_granted_in new.reading ≡ false) → IsSound (record l { feed = Some v }) → IsSound (passed_live (Some new) l)
+sound_with : (l : LiveNow) (v new : FeedNow) → (is_framing new.reading ≡ true) × (is_granted_in new.reading ≡ false) → IsSound (record l { feed = Some v }) → IsSound (passed_live (Some new) l)
 sound_with l v new r h = record {
   fed = h.fed;
   asked = λ e. absurd (true≢false (sym r.0 ∙ e));
   connect = h.connect;
   numbers = h.numbers;
-  grant = sym r.1;
-  told = sym r.2;
+  grant = nothing_for (asked_in new.reading) l.granted.peer;
+  told = sym r.1;
   ungranted = λ _. refl;
 }
 
@@ -163,7 +164,7 @@ noted_sound : (l : LiveNow) (k : Keepalive) (x y : Option FeedNow) → NotesFeed
 noted_sound l k (Some v) (Some new) n h =
     let p = n.0.1 in
     let r = passed_reads v.reading (whole n.0.0) p.0 p.1 in
-    sound_with l v new (ap is_framing p.2 ∙ r.0, ap granted_in p.2 ∙ r.1, ap is_granted_in p.2 ∙ r.2) h
+    sound_with l v new (ap is_framing p.2 ∙ r.0, ap is_granted_in p.2 ∙ r.1) h
 noted_sound l k (Some v) None n h = absurd n
 noted_sound l k None y n h = absurd n
 

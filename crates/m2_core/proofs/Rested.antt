@@ -1,5 +1,6 @@
 -- One answer of the decoder where no whole frame stands at the front.
 use Rattle.std.proofs.Common.{◌≡◌, ◌≢◌, ℕ, Bool, true, false, Option, Some, None, refl, sym, ap, subst, ◌∙◌}
+use Rattle.std.proofs.lemmas.Bool.{true≢false}
 use Rattle.std.specs.Prelude.{if◌then◌else◌}
 use Rattle.m2_feed.specs.Calls.{IsBad, IsFront, OnlyReads, Owes, Rests}
 use Rattle.m2_feed.specs.FeedNow.{FeedNow, Reading, framing, shaking}
@@ -13,7 +14,8 @@ use Rattle.m2_frame.specs.Reading.{dropped}
 use Rattle.m2_feed.specs.declared.wire_fault.WireFault.TheVariants as fault
 use Rattle.m2_feed.specs.declared.frame_heard.FrameHeard.TheVariants.{Nothing, Fault}
 use Rattle.m2_feed.specs.FrameLaws.{AsksForItsSize, IsHeardAsReplayed}
-use Rattle.m2_core.specs.LiveNow.{OnFeedNow, granted_in, granted_on, is_ready, size_granted}
+use Rattle.m2_core.specs.LiveNow.{OnFeedNow, is_granted_in, is_granted_on, is_ready}
+use Rattle.m2_core.proofs.Holding.{none_whole}
 use Rattle.m2_core.specs.OnFeed.{GivesFeed, HasNoFrame, PassesItem}
 use Rattle.m2_core.specs.LiveCalls.{live_with, passed_live}
 use Rattle.m2_core.specs.declared.resting.CoreRest.TheVariants as rest
@@ -81,12 +83,12 @@ aborted_item tag (Some v) None a = absurd a
 aborted_item tag None y a = absurd a
 
 -- its size was granted
-granted_text : AsksForItsSize → (r : Reading) (tag len : ℕ) → IsFront r (dropped tag) len → granted_in r ≢ None
-granted_text law (framing rest true) tag len i e = let s = law.aborted rest tag len i.1 in none_isnt_some s.0 (sym e ∙ s.1)
+granted_text : AsksForItsSize → (r : Reading) (tag len : ℕ) → IsFront r (dropped tag) len → is_granted_in r ≢ false
+granted_text law (framing rest true) tag len i e = true≢false e
 granted_text law (framing rest false) tag len i e = let s = law.aborted rest tag len i.1 in none_isnt_some s.0 (sym i.0 ∙ s.1)
 granted_text law (shaking s) tag len i e = absurd i
 
-granted_item : AsksForItsSize → (tag : ℕ) (x y : Option FeedNow) → PassesItem (dropped tag) x y → granted_on x ≢ None
+granted_item : AsksForItsSize → (tag : ℕ) (x y : Option FeedNow) → PassesItem (dropped tag) x y → is_granted_on x ≢ false
 granted_item law tag (Some v) (Some new) p = granted_text law v.reading tag p.0.len p.0.front
 granted_item law tag (Some v) None p = absurd p
 granted_item law tag None y p = absurd p
@@ -97,7 +99,7 @@ ready_there law c tag y h p = at (is_ready c.live) refl
   where
     at : (b : Bool) → is_ready c.live ≡ b → is_ready c.live ≡ true
     at true e = e
-    at false e = absurd (granted_item law tag c.live.feed y p (sym h.sound.grant ∙ ap size_granted (h.sound.ungranted e)))
+    at false e = absurd (granted_item law tag c.live.feed y p (sym h.sound.told ∙ none_whole c.live.granted (h.sound.ungranted e)))
 
 aborted_heard : AsksForItsSize → (c : CoreNow) (tag : ℕ) (y : Option FeedNow) → Holds c → PassesItem (dropped tag) c.live.feed y → PassesHeard (hearer_of c) Nothing c.live.feed y
 aborted_heard law c tag y h p = record {

@@ -1,7 +1,6 @@
 -- What stands at a core's front, and what taking it keeps.
 use Rattle.std.proofs.Common.{◌≡◌, ℕ, ◌+◌, ◌≤◌, Bool, true, false, length, Option, Some, None, refl, sym, ap, subst, ◌∙◌, arith}
 use Rattle.std.specs.Prelude.{IfSome, IsTrue, if◌then◌else◌, option_map}
-use Rattle.std.specs.Option.{is_some}
 use Rattle.m2_addr.specs.declared.addr.Addr.{Addr}
 use Rattle.m2_control.specs.declared.fields.TheConstants.{GREATEST_NUMBER}
 use Rattle.m2_feed.specs.Calls.{HasFrame, IsFront, PassesFrame}
@@ -28,7 +27,9 @@ use Rattle.m2_session.specs.declared.session.Phase.TheVariants.{Ready}
 use Rattle.m2_session.specs.declared.session.Session.{Session}
 use Rattle.m2_session.specs.Phases as phase
 use Rattle.m2_session.specs.Steps.{HasFollower, is_lawful, step_of}
-use Rattle.m2_core.specs.LiveNow.{LiveNow, OnFeedNow, granted_in, is_granted_in, is_ready, size_granted}
+use Rattle.m2_core.specs.LiveNow.{AreFor, HoldsNothing, LiveNow, OnFeedNow, asked_in, is_granted_in, is_ready}
+use Rattle.m2_shared.specs.Gates.{is_whole}
+use Rattle.m2_core.proofs.Holding.{none_for, none_whole}
 use Rattle.m2_core.specs.Effects.{tells}
 use Rattle.m2_core.specs.OnFeed.{PassesFeed}
 use Rattle.m2_core.specs.LiveCalls.{live_with}
@@ -138,7 +139,7 @@ follows (heard.Refused g) e v b q s = absurd (none_isnt_event v q)
 pub has_follower : (h : Heard) (e : Event) → IsBounded h → event_of h ≡ Some e → HasFollower e
 has_follower h e b q = follows h e e b q refl
 
-pub nothing_granted : (f : SideFacts) (l : LiveNow) (h : Heard) → hearing f l ≡ Some h → IsSound l → l.granted ≡ None
+pub nothing_granted : (f : SideFacts) (l : LiveNow) (h : Heard) → hearing f l ≡ Some h → IsSound l → HoldsNothing l.granted
 nothing_granted f l h e sound = sound.ungranted (before_ready f l h e)
 
 -- no answer throws anything away
@@ -173,26 +174,25 @@ leaves_it (heard.Refused g) old new q t = t
 
 -- ---- what holds of each core
 
--- a feed on which a frame was passed reads frames, with no size granted
+-- a feed on which a frame was passed reads frames, with nothing granted
 pub record IsPassed (r : Reading) : Type 0 where
   pub framing : is_framing r ≡ true
-  pub size : granted_in r ≡ None
   pub told : is_granted_in r ≡ false
 
 pub passed_on : (old new : Reading) → PassesFrame old new → IsPassed new
-passed_on (framing rest granted) new p = subst IsPassed (sym p.1.2) (record { framing = refl; size = refl; told = refl })
+passed_on (framing rest granted) new p = subst IsPassed (sym p.1.2) (record { framing = refl; told = refl })
 passed_on (shaking s) new p = absurd p.1.1
 
 kept_few : (q : Queue) → last_number q ≤ GREATEST_NUMBER → 0 + length q.kept ≤ GREATEST_NUMBER
 kept_few q h = omega (arith, h)
 
 -- behind an answer that the session is told of
-module _ (l : LiveNow) (v new : FeedNow) (sound : IsSound (live_with (Some v) l)) (ungranted : l.granted ≡ None) (p : IsPassed new.reading) where
-  size : size_granted l.granted ≡ granted_in new.reading
-  size = ap size_granted ungranted ∙ sym p.size
+module _ (l : LiveNow) (v new : FeedNow) (sound : IsSound (live_with (Some v) l)) (ungranted : HoldsNothing l.granted) (p : IsPassed new.reading) where
+  size : AreFor (asked_in new.reading) l.granted
+  size = none_for (asked_in new.reading) l.granted ungranted
 
-  told : is_some l.granted ≡ is_granted_in new.reading
-  told = ap is_some ungranted ∙ sym p.told
+  told : is_whole l.granted ≡ is_granted_in new.reading
+  told = none_whole l.granted ungranted ∙ sym p.told
 
   not_shaking : {X : Type 0} → is_framing new.reading ≡ false → X
   not_shaking {X} e = absurd (apart (sym p.framing ∙ e))
@@ -269,21 +269,21 @@ module _ (l : LiveNow) (v new : FeedNow) (sound : IsSound (live_with (Some v) l)
     ungranted = λ _. ungranted;
   }
 
-answered_by : (l : LiveNow) (x y : Option FeedNow) (h : Heard) (e : Event) → IsSound (live_with x l) → l.granted ≡ None → PassesFeed x y → event_of h ≡ Some e → IsBounded h →
+answered_by : (l : LiveNow) (x y : Option FeedNow) (h : Heard) (e : Event) → IsSound (live_with x l) → HoldsNothing l.granted → PassesFeed x y → event_of h ≡ Some e → IsBounded h →
     IsSound (after_answer h y (live_with x l))
 answered_by l (Some v) (Some new) h e sound none p q b = answered_sound l v new sound none (passed_on v.reading new.reading p.0) h e q b
 answered_by l None y h e sound none p q b = absurd p
 answered_by l (Some v) None h e sound none p q b = absurd p
 
-reset_by : (l : LiveNow) (x y : Option FeedNow) (full : Bool) → IsSound (live_with x l) → l.granted ≡ None → PassesFeed x y → IsSound (tells (event.GotReset full) (live_with y l))
+reset_by : (l : LiveNow) (x y : Option FeedNow) (full : Bool) → IsSound (live_with x l) → HoldsNothing l.granted → PassesFeed x y → IsSound (tells (event.GotReset full) (live_with y l))
 reset_by l (Some v) (Some new) full sound none p = reset_sound l v new sound none (passed_on v.reading new.reading p.0) full
 reset_by l None y full sound none p = absurd p
 reset_by l (Some v) None full sound none p = absurd p
 
-taken_sound : (l new : LiveNow) (h : Heard) (e : Event) → IsSound l → l.granted ≡ None → event_of h ≡ Some e → IsBounded h → TakesAnswer h l new → IsSound new
+taken_sound : (l new : LiveNow) (h : Heard) (e : Event) → IsSound l → HoldsNothing l.granted → event_of h ≡ Some e → IsBounded h → TakesAnswer h l new → IsSound new
 taken_sound l new h e sound none q b t = subst IsSound (sym t.live) (answered_by l l.feed t.passed h e sound none t.passes q b)
 
-heeded : (l new : LiveNow) (h : Heard) → IsSound l → l.granted ≡ None → IsBounded h → Heeds (Some h) l new → IsSound new
+heeded : (l new : LiveNow) (h : Heard) → IsSound l → HoldsNothing l.granted → IsBounded h → Heeds (Some h) l new → IsSound new
 heeded l new (heard.ServerIdent cookie global) sound none b t = taken_sound l new _ _ sound none refl b t
 heeded l new (heard.ReconnectOk seen) sound none b t = taken_sound l new _ _ sound none refl b t
 heeded l new (heard.Retry number) sound none b t = taken_sound l new _ _ sound none refl b t
@@ -323,7 +323,7 @@ heeds_at c v o h e l same some q t =
 pub heard_front_at : (c v : CoreNow) (h : Heard) → c ≡ v → hearing v.facts v.live ≡ Some h → OnFeedNow c.live.feed (λ w. HasFrame w.reading)
 heard_front_at c v h e is = front_at c v (Some h) h e (sym is) refl
 
-pub ungranted_at : (c v : CoreNow) (h : Heard) → Holds c → c ≡ v → hearing v.facts v.live ≡ Some h → c.live.granted ≡ None
+pub ungranted_at : (c v : CoreNow) (h : Heard) → Holds c → c ≡ v → hearing v.facts v.live ≡ Some h → HoldsNothing c.live.granted
 ungranted_at c v h holds same is = nothing_granted c.facts c.live h (subst (λ (z : CoreNow). hearing z.facts z.live ≡ Some h) (sym same) is) holds.sound
 
 -- ---- a refusal is a fault of the replay

@@ -16,7 +16,7 @@ use Rattle.m2_journal.specs.SideFacts.{SideFacts}
 use Rattle.m2_journal.specs.State.{Feed, PartText, State}
 use Rattle.m2_journal.specs.Steps as replay
 use Rattle.m2_journal.specs.Steps.{after, puts, puts_on, puts_whole, sends_late}
-use Rattle.m2_shared.specs.Throttle.{SeenGrant}
+use Rattle.m2_shared.specs.declared.peer_grants.PeerGrants.{PeerGrants}
 use Rattle.m2_core.specs.LiveNow.{LiveNow}
 use Rattle.m2_core.specs.OnFeed.{WritesFeed}
 use Rattle.m2_core.specs.LiveCalls.{live_with}
@@ -66,7 +66,7 @@ module _ (law : PutsKeep) (n : ℕ) (b : Bool) (v new : FeedNow) (w : WritesOn (
   abbrev puts_it : CoreNow → CoreNow
   puts_it c = record c { live = live_with (Some new) c.live; owes = c.owes && not b }
 
-  leads_at : (f : SideFacts) (s : State) (m r : ℕ) (g : Option SeenGrant) (y : Option Feed) → FeedsAgree f (record s { feed = y }) (Some v) y → IsResumed r y →
+  leads_at : (f : SideFacts) (s : State) (m r : ℕ) (g : PeerGrants) (y : Option Feed) → FeedsAgree f (record s { feed = y }) (Some v) y → IsResumed r y →
       Agrees (puts_it (core_of f (record s { feed = y }) m r (Some v) g)) (after f (item.wrote v.end.id bytes) (record s { feed = y }))
   leads_at f s m r g (Some d) st told =
       let t : State = record s { feed = Some d } in

@@ -5,6 +5,8 @@ use Rattle.m2_journal.specs.Items as item
 use Rattle.m2_journal.specs.Lawful.{key_of}
 use Rattle.m2_journal.specs.State.{letter}
 use Rattle.m2_message.specs.Message.{content_of, size_of}
+use Rattle.m2_shared.specs.Gates.{is_whole}
+use Rattle.m2_core.specs.LiveNow.{AreFor}
 use Rattle.m2_core.specs.LiveAccepting.{MovesMessage, accepted_live}
 use Rattle.m2_core.specs.declared.accepting.CoreAccepted.{CoreAccepted}
 use Rattle.m2_core.specs.Agrees.{HandsOut, LeadsOn, MayCome}
@@ -16,8 +18,9 @@ pub record Accepts (a : CoreAccepted) (before after : CoreNow) : Type 0 where
   pub number : a.number ≡ before.live.last + 1
   pub life : a.life ≡ before.live.life
   pub key : a.key ≡ key_of before.facts (content_of a.message)
-  pub grant : before.live.granted ≡ Some a.grant
-  pub size : a.grant.n ≡ size_of a.message
+  pub grants : before.live.granted ≡ a.grants
+  pub whole : is_whole a.grants ≡ true
+  pub size : AreFor (Some (size_of a.message)) a.grants
   pub only : after ≡ record before { live = accepted_live a.number after.live.feed before.live; owes = true }
   pub may : MayCome (item.accepted a.number a.key) before
   pub leads : LeadsOn (item.accepted a.number a.key) before after

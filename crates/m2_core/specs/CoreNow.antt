@@ -10,7 +10,9 @@ use Rattle.m2_queues.specs.OutQueues.{last_number, new_queue}
 use Rattle.m2_session.specs.declared.session.Phase.{Phase}
 use Rattle.m2_session.specs.declared.session.Phase.TheVariants.{Connecting}
 use Rattle.m2_session.specs.Phases as phase
-use Rattle.m2_core.specs.LiveNow.{LiveNow, granted_on, is_granted_on, is_ready, is_waiting, size_granted}
+use Rattle.m2_core.specs.LiveNow.{AreFor, HoldsNothing, LiveNow, asked_on, is_granted_on, is_ready, is_waiting}
+use Rattle.m2_shared.specs.Gates.{is_whole, nothing_held}
+use Rattle.m2_shared.specs.declared.peer_type.PeerType.{PeerType}
 
 pub record CoreNow : Type 0 where
   -- what never changes
@@ -23,19 +25,20 @@ pub record CoreNow : Type 0 where
   -- the greatest global number used
   pub top : ℕ
 
-abbrev pub live_at_start : SideFacts → LiveNow
-live_at_start f = record {
+abbrev pub live_at_start : SideFacts → PeerType → LiveNow
+live_at_start f peer = record {
   session = absent f;
   out = record { queue = new_queue (not f.policy.lossy); spare = 0 };
   last = 0;
   life = 0;
   resumed = 0;
   feed = None;
-  granted = None;
+  granted = nothing_held peer;
 }
 
-abbrev pub at_start : SideFacts → CoreNow
-at_start f = record { facts = f; live = live_at_start f; owes = false; dials = false; top = 0 }
+-- towards a peer of this type
+abbrev pub at_start : SideFacts → PeerType → CoreNow
+at_start f peer = record { facts = f; live = live_at_start f peer; owes = false; dials = false; top = 0 }
 
 -- ---- words
 
@@ -49,15 +52,15 @@ IsAskedIfSigned p (Some v) = is_framing v.reading ≡ false → p ≡ Connecting
 IsAskedIfSigned p None = Unit {0}
 
 -- What holds of each core. There is a feed exactly in the phases that have one; numbers that are counted up have a next one;
--- and a grant is held exactly for the MESSAGE at the feed's front, of which its decoder was told, in Ready alone.
+-- and grants are held for the MESSAGE at the feed's front alone, in Ready alone; its decoder was told where each stage has granted.
 pub record IsSound (l : LiveNow) : Type 0 where
   pub fed : is_some l.feed ≡ phase.is_among l.session.phase phase.with_feed
   pub asked : IsAskedIfSigned l.session.phase l.feed
   pub connect : l.session.connect ≤ GREATEST_NUMBER + 1
   pub numbers : last_number l.out.queue ≤ GREATEST_NUMBER
-  pub grant : size_granted l.granted ≡ granted_on l.feed
-  pub told : is_some l.granted ≡ is_granted_on l.feed
-  pub ungranted : is_ready l ≡ false → l.granted ≡ None
+  pub grant : AreFor (asked_on l.feed) l.granted
+  pub told : is_whole l.granted ≡ is_granted_on l.feed
+  pub ungranted : is_ready l ≡ false → HoldsNothing l.granted
 
 -- and cookies can be drawn
 pub record Holds (c : CoreNow) : Type 0 where

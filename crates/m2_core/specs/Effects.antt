@@ -8,6 +8,7 @@ use Rattle.m2_session.specs.Steps.{nothing, step_of}
 use Rattle.m2_session.specs.declared.event.Effects.{Effects}
 use Rattle.m2_session.specs.declared.event.Event.{Event}
 use Rattle.m2_session.specs.declared.session.Session.{Session}
+use Rattle.m2_shared.specs.Gates.{nothing_held}
 use Rattle.m2_core.specs.LiveNow.{LiveNow}
 
 abbrev pub where_true : Bool → (LiveNow → LiveNow) → LiveNow → LiveNow
@@ -16,7 +17,7 @@ where_true false change l = l
 
 -- the feed goes, with what is granted for it
 abbrev pub closes : LiveNow → LiveNow
-closes l = record l { feed = None; granted = None; resumed = 0 }
+closes l = record l { feed = None; granted = nothing_held l.granted.peer; resumed = 0 }
 
 -- what was sent and isn't acknowledged is to be sent again
 abbrev pub requeues : LiveNow → LiveNow

@@ -8,6 +8,7 @@ use Rattle.m2_message.specs.Message.{Content}
 use Rattle.m2_queues.specs.OutQueues.{after_acked, after_post}
 use Rattle.m2_session.specs.declared.event.Event.TheVariants as event
 use Rattle.m2_session.specs.declared.event.Event.{Event}
+use Rattle.m2_shared.specs.Gates.{nothing_held}
 use Rattle.m2_core.specs.LiveNow.{LiveNow, is_waiting}
 use Rattle.m2_core.specs.Effects.{tells}
 use Rattle.m2_core.specs.OnFeed.{NotesFeed, PassesFeed}
@@ -20,7 +21,7 @@ live_with x l = record l { feed = x }
 
 -- what stood at its front is passed, and what was held for it given back
 abbrev pub passed_live : Option FeedNow → LiveNow → LiveNow
-passed_live x l = record l { feed = x; granted = None }
+passed_live x l = record l { feed = x; granted = nothing_held l.granted.peer }
 
 -- the frame at the front is
 pub record LivePasses (old new : LiveNow) : Type 0 where

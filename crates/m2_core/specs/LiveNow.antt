@@ -7,8 +7,11 @@ use Rattle.m2_queues.specs.OutQueues.{Outgoing, waits}
 use Rattle.m2_session.specs.Phases as phase
 use Rattle.m2_session.specs.declared.session.Phase.TheVariants.{Ready}
 use Rattle.m2_session.specs.declared.session.Session.{Session}
-use Rattle.m2_shared.specs.Place.{Place}
+use Rattle.m2_shared.specs.Gates.{nothing_held}
+use Rattle.m2_shared.specs.Stages.{amount, grant_at}
 use Rattle.m2_shared.specs.Throttle.{SeenGrant}
+use Rattle.m2_shared.specs.declared.peer_grants.PeerGrants.{PeerGrants}
+use Rattle.m2_shared.specs.declared.stage.Stage.{Stage}
 
 -- what a session's step can change
 pub record LiveNow : Type 0 where
@@ -22,8 +25,8 @@ pub record LiveNow : Type 0 where
   -- the resumption, so only a claim of more is left to be met.
   pub resumed : ℕ
   pub feed : Option FeedNow
-  -- what a throttle has granted for the MESSAGE that isn't finished
-  pub granted : Option SeenGrant
+  -- what the stages have granted so far for the MESSAGE that isn't finished
+  pub granted : PeerGrants
 
 -- ---- the feed
 
@@ -32,16 +35,16 @@ abbrev pub OnFeedNow : Option FeedNow → (FeedNow → Type 0) → Type 0
 OnFeedNow (Some v) P = P v
 OnFeedNow None P = ⊥
 
--- the size that is granted for the MESSAGE at the front
-abbrev pub granted_in : Reading → Option ℕ
-granted_in (framing rest true) = size_of rest
-granted_in _ = None
+-- the size of the MESSAGE at the front, granted or not
+abbrev pub asked_in : Reading → Option ℕ
+asked_in (framing rest granted) = size_of rest
+asked_in (shaking s) = None
 
-abbrev pub granted_on : Option FeedNow → Option ℕ
-granted_on (Some v) = granted_in v.reading
-granted_on None = None
+abbrev pub asked_on : Option FeedNow → Option ℕ
+asked_on (Some v) = asked_in v.reading
+asked_on None = None
 
--- whether its decoder was told so
+-- whether its decoder was told that each stage has granted
 abbrev pub is_granted_in : Reading → Bool
 is_granted_in (framing rest granted) = granted
 is_granted_in (shaking s) = false
@@ -52,19 +55,17 @@ is_granted_on None = false
 
 -- ---- what is granted for it
 
-abbrev pub size_granted : Option SeenGrant → Option ℕ
-size_granted (Some g) = Some g.n
-size_granted None = None
+abbrev pub HoldsNothing : PeerGrants → Type 0
+HoldsNothing g = g ≡ nothing_held g.peer
 
--- how many bytes that are
-abbrev pub held : Option SeenGrant → ℕ
-held (Some g) = g.n
-held None = 0
+abbrev pub IsAmount : ℕ → Option SeenGrant → Type 0
+IsAmount n (Some g) = g.n ≡ n
+IsAmount n None = Unit {0}
 
--- what is held was granted by the throttle whose word lies there
-abbrev pub IsOwned : Place → Option SeenGrant → Type 0
-IsOwned place (Some g) = g.place ≡ place
-IsOwned place None = Unit {0}
+-- What a stage has granted is what it grants for a message of the size that is asked for; where none is asked for, nothing is granted.
+abbrev pub AreFor : Option ℕ → PeerGrants → Type 0
+AreFor (Some size) g = (stage : Stage) → IsAmount (amount stage size) (grant_at g.grants stage)
+AreFor None g = HoldsNothing g
 
 -- ---- the session and the queue
 

@@ -1,5 +1,5 @@
 -- What a core does with the front of its feed: one entry at most, by what stands there.
-use Rattle.std.specs.Prelude.{◌≡◌, ℕ, ◌-◌, ◌+◌, ◌<◌, ◌≤◌, Bool, true, false, Some}
+use Rattle.std.specs.Prelude.{◌≡◌, ℕ, ◌<◌, ◌≤◌, Bool, true, false, Some}
 use Rattle.m2_feed.specs.Calls.{IsBad, Owes, Rests}
 use Rattle.m2_feed.specs.FeedNow.{Reading}
 use Rattle.m2_frame.specs.Frame.{message_tag}
@@ -11,8 +11,10 @@ use Rattle.m2_journal.specs.Items as item
 use Rattle.m2_session.specs.declared.event.Effects.{Effects}
 use Rattle.m2_session.specs.declared.event.Event.TheVariants as event
 use Rattle.m2_session.specs.Steps.{nothing, step_of}
-use Rattle.m2_shared.specs.declared.take.Take.TheVariants as take
-use Rattle.m2_shared.specs.Throttle.{SeenTakePass}
+use Rattle.m2_shared.specs.Gates.{Gate, Keep, Return, Stay}
+use Rattle.m2_shared.specs.declared.more.More.{More}
+use Rattle.m2_shared.specs.declared.more.More.TheVariants as more
+use Rattle.m2_shared.specs.declared.throttles.TakePasses.{TakePasses}
 use Rattle.m2_core.specs.LiveNow.{LiveNow, OnFeedNow, is_ready, is_waiting}
 use Rattle.m2_core.specs.LiveCalls.{after_counted, after_fault}
 use Rattle.m2_core.specs.declared.next.CoreNext.{CoreNext}
@@ -23,9 +25,7 @@ use Rattle.m2_core.specs.Accepting.{Accepts}
 use Rattle.m2_core.specs.Agrees.{IsBroken, IsToldTo, LeadsOn, MayCome}
 use Rattle.m2_core.specs.CoreNow.{CoreNow}
 use Rattle.m2_core.specs.Front.{FrontHeard, HearsOn, asks, rests, tells}
-use Rattle.m2_core.specs.declared.granting.CoreGrant.{CoreGrant}
-use Rattle.m2_core.specs.declared.granting.CoreGrant.TheVariants as grant
-use Rattle.m2_core.specs.Granting.{Grants, IsAnswer, Throttled, grant_at}
+use Rattle.m2_core.specs.Granting.{HasAsked, Throttled}
 use Rattle.m2_core.specs.Hearing.{hearing}
 use Rattle.m2_core.specs.Passing.{HasPassed, HasStamped}
 
@@ -74,9 +74,9 @@ pub record Counts (number : ℕ) (before after : CoreNow) : Type 0 where
 -- each answer, where this stands at the front
 abbrev pub IsNext : Throttled → CoreNext → FrontHeard → (before after : CoreNow) → Type 0
 IsNext t next.Rests rests before after = after ≡ before
-IsNext t next.Granted (asks n) before after = IsAnswer t n (grant_at t.throttle.place n) × Grants t.throttle n before after
-IsNext t (next.Full held) (asks n) before after = IsAnswer t n (take.Full held) × (after ≡ before)
-IsNext t (next.Again seen now) (asks n) before after = IsAnswer t n (take.Again seen now) × (after ≡ before)
+IsNext t next.Granted (asks n) before after = HasAsked more.Whole t n before after
+IsNext t (next.Full stage held) (asks n) before after = HasAsked (more.Full stage held) t n before after
+IsNext t (next.Again stage seen now) (asks n) before after = HasAsked (more.Again stage seen now) t n before after
 IsNext t next.Passed (tells heard.Nothing) before after = HasPassed before after
 IsNext t next.Passed (tells (heard.Stamp k)) before after = HasStamped k before after
 IsNext t next.NoMemory (tells (heard.Stamp k)) before after = after ≡ before
@@ -97,28 +97,30 @@ abbrev pub size_front : Bool → ℕ → FrontHeard
 size_front true n = asks n
 size_front false n = tells (heard.Fault (fault.Unexpected message_tag))
 
--- the answer of a throttle
-abbrev pub granted_next : CoreGrant → CoreNext
-granted_next grant.Granted = next.Granted
-granted_next (grant.Full held) = next.Full held
-granted_next (grant.Again seen now) = next.Again seen now
+-- the answer of the stages
+abbrev pub granted_next : More → CoreNext
+granted_next more.Whole = next.Granted
+granted_next (more.Full stage held) = next.Full stage held
+granted_next (more.Again stage seen now) = next.Again stage seen now
 
 -- ---- what is held
 
--- The word of a throttle that is alone, by what is held for the feed before and behind: a size is drawn when it is granted,
--- and what is held is given back where its text is passed, or the feed closed. A grant that is handed out stays drawn.
-abbrev pub word_next : CoreNext → (word before behind : ℕ) → ℕ
-word_next next.Granted word before behind = word + behind
-word_next next.Passed word before behind = word - before
-word_next (next.Fault cause) word before behind = word - before
-word_next _ word before behind = word
+-- The words of throttles that are alone, by what is held for the feed before and behind: what a stage grants is drawn when it
+-- grants, and what is held is given back where its text is passed, or the feed closed. What is handed out stays drawn.
+abbrev pub WordsNext : CoreNext → Throttled → (before behind : Gate → ℕ) → Type 0
+WordsNext next.Granted t before behind = Keep before behind t.throttles t.before t.behind
+WordsNext (next.Full stage out) t before behind = Keep before behind t.throttles t.before t.behind
+WordsNext (next.Again stage seen now) t before behind = Keep before behind t.throttles t.before t.behind
+WordsNext next.Passed t before behind = Return before t.throttles t.before t.behind
+WordsNext (next.Fault cause) t before behind = Return before t.throttles t.before t.behind
+WordsNext _ t before behind = Stay t.throttles t.before t.behind
 
-abbrev pub word_rest : CoreRest → (word before : ℕ) → ℕ
-word_rest rest.Passed word before = word - before
-word_rest _ word before = word
+abbrev pub WordsRest : CoreRest → Throttled → (before : Gate → ℕ) → Type 0
+WordsRest rest.Passed t before = Return before t.throttles t.before t.behind
+WordsRest _ t before = Stay t.throttles t.before t.behind
 
--- what is left of the pass: where nothing was passed, all
-abbrev pub LeavesRest : CoreRest → (before after : SeenTakePass) → Type 0
+-- what is left of the passes: where nothing was passed, all
+abbrev pub LeavesRest : CoreRest → (before after : TakePasses) → Type 0
 LeavesRest rest.Passed before after = Unit {0}
 LeavesRest _ before after = after ≡ before
 

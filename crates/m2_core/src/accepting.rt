@@ -15,7 +15,7 @@ use m2_fabric::End;
 use m2_journal::NodeFacts;
 use m2_message::{Header, Message};
 use m2_policy::{Key, Path};
-use m2_shared::Grant;
+use m2_shared::PeerGrants;
 
 /// A message that was accepted, with what was granted for it. It can't be dropped, since a grant can't.
 pub struct CoreAccepted {
@@ -26,14 +26,14 @@ pub struct CoreAccepted {
     /// Its priority and its path at this node.
     pub key: Key,
     pub message: Message,
-    /// What a throttle granted for the bytes of its parts.
-    pub grant: Grant,
+    /// What each stage granted for it.
+    pub grants: PeerGrants,
 }
 
 impl<E: End> Core<E> {
     /// Accepts the message at the front, which is the one with this number: the entry Accepted. Its parts are
     /// copied once. Err for want of memory changes nothing.
-    #[tactic(auto, using(crate::proofs::Accepted::is_heard, crate::proofs::Accepted::is_granted, crate::proofs::Accepted::keeps_to, crate::proofs::Accepted::accepts_to))]
+    #[tactic(auto, using(crate::proofs::Accepted::is_heard, crate::proofs::Accepted::keeps_to, crate::proofs::Accepted::accepts_to))]
     pub fn accept(&mut self, number: u64) -> Result<CoreAccepted, NoMemory>
         requires heard { HearsOn self.old (heard.Brings number) }
         ensures accepted { HasAccepted result number self.old self.new }
@@ -41,14 +41,14 @@ impl<E: End> Core<E> {
         front_laws();
         let life = self.live.life;
         match self.live.accept_front(number) {
-            Ok((message, grant)) => {
+            Ok((message, grants)) => {
                 self.owes = true;
                 Ok(CoreAccepted {
                     number,
                     life,
                     key: key_at(&self.node, &message.header),
                     message,
-                    grant,
+                    grants,
                 })
             }
             Err(NoMemory) => Err(NoMemory),

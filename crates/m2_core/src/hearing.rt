@@ -6,7 +6,7 @@ ghost use Rattle.m2_feed.specs.Heard.{IsBounded, event_of};
 ghost use Rattle.m2_session.specs.declared.event.Event.TheVariants as event;
 ghost use Rattle.m2_session.specs.Steps as table;
 ghost use Rattle.m2_session.specs.Steps.{HasFollower, step_of};
-ghost use Rattle.m2_core.specs.LiveNow.{OnFeedNow, is_ready};
+ghost use Rattle.m2_core.specs.LiveNow.{HoldsNothing, OnFeedNow, is_ready};
 ghost use Rattle.m2_core.specs.Effects.{IsAftermath};
 ghost use Rattle.m2_core.specs.LiveHearing.{ObeysReset, TakesAnswer, heard_on, raised_by};
 
@@ -44,7 +44,7 @@ impl<E: End> Live<E> {
         requires connect { self.old.session.connect < 2 ^ 64 - 1 }
         requires follower { HasFollower event }
         requires front { OnFeedNow self.old.feed (λ v. HasFrame v.reading) }
-        requires ungranted { self.old.granted ≡ None }
+        requires ungranted { HoldsNothing self.old.granted }
         ensures takes { TakesAnswer heard self.old self.new }
         ensures aftermath { IsAftermath (step_of self.old.session event).effects self.old.feed (option_map E.seen result.closed) result.discarded result.remote_reset }
     {
@@ -61,7 +61,7 @@ impl<E: End> Live<E> {
         requires lawful { IsTrue (table.is_lawful self.old.session (event.GotReset full)) }
         requires connect { self.old.session.connect < 2 ^ 64 - 1 }
         requires front { OnFeedNow self.old.feed (λ v. HasFrame v.reading) }
-        requires ungranted { self.old.granted ≡ None }
+        requires ungranted { HoldsNothing self.old.granted }
         ensures obeys { ObeysReset full self.old self.new }
         ensures aftermath { IsAftermath (step_of self.old.session (event.GotReset full)).effects self.old.feed (option_map E.seen result.closed) result.discarded result.remote_reset }
     {

@@ -3,8 +3,7 @@
 ghost use Rattle.std.specs.Prelude.{◌≡◌, ℕ, List, ◌-◌, ◌<◌, ◌≤◌, true, false, length, option_map, IfSome, IsSome};
 ghost use Rattle.m2_fabric.specs.declared.socket.SocketId.{SocketId};
 ghost use Rattle.m2_session.specs.SessionLaws.{takes};
-ghost use Rattle.m2_shared.specs.Place.{IsAlone};
-ghost use Rattle.m2_core.specs.LiveNow.{IsOwned, held};
+ghost use Rattle.m2_shared.specs.Gates.{AreHeld, ArePassesOf, Return, Stay, held, places};
 ghost use Rattle.m2_core.specs.Effects.{IsAftermath, closed_of, effects_of};
 ghost use Rattle.m2_core.specs.LiveCalls.{resumed_by_ask};
 ghost use Rattle.m2_core.specs.Judging.{IsVerdict, acceptance_text, told_of};
@@ -18,7 +17,7 @@ use m2_bytes::Blob;
 use m2_fabric::End;
 use m2_feed::Feed;
 use m2_frame::Decoder;
-use m2_shared::{TakePass, Throttle};
+use m2_shared::{TakePasses, Throttles};
 
 impl<E: End> Core<E> {
     /// The answer takes no socket: the entry Judged. Of the effects there are at most those of a pending
@@ -26,22 +25,22 @@ impl<E: End> Core<E> {
     pub fn answered(
         &mut self,
         v: &Verdict,
-        throttle: &Throttle,
-        pass: &mut TakePass,
+        throttles: &Throttles,
+        passes: &mut TakePasses,
     ) -> Aftermath<E>
         requires verdict { IsVerdict v.now self.old }
         requires refuses { takes v.now.answer ≡ false }
-        requires pass { pass.old.place ≡ throttle.now.place }
-        requires owned { IsOwned throttle.now.place self.old.live.granted }
+        requires passes { ArePassesOf throttles.now passes.old }
+        requires owned { AreHeld (places throttles.now) self.old.live.granted }
         ensures value { self.new ≡ after_answering v.now self.old }
         ensures judged { (socket : SocketId) (unread : List ℕ) → MakesJudgement v.now socket unread self.old self.new }
         ensures aftermath { IsAftermath (effects_of (told_of self.old.facts v.now) self.old.live.session) self.old.live.feed (option_map E.seen result.closed) result.discarded result.remote_reset }
-        ensures place { pass.new.place ≡ pass.old.place }
-        ensures word { IsAlone throttle.now.place → pass.new.word ≡ pass.old.word }
+        ensures passes { ArePassesOf throttles.now passes.new }
+        ensures word { Stay throttles.now passes.old passes.new }
     {
         feed_laws();
         let told = self.told_of(v);
-        let aftermath = self.live.tell_if(told, throttle, pass);
+        let aftermath = self.live.tell_if(told, throttles, passes);
         self.top = v.number;
         aftermath
     }
@@ -55,8 +54,8 @@ impl<E: End> Core<E> {
         end: E,
         decoder: Decoder,
         acceptance: Blob,
-        throttle: &Throttle,
-        pass: &mut TakePass,
+        throttles: &Throttles,
+        passes: &mut TakePasses,
     ) -> Aftermath<E>
         requires verdict { IsVerdict v.now self.old }
         requires takes { takes v.now.answer ≡ true }
@@ -64,22 +63,22 @@ impl<E: End> Core<E> {
         requires read { length decoder.rest ≤ length (E.seen end).log.got }
         requires ungranted { decoder.granted ≡ false }
         requires text { acceptance.bytes ≡ acceptance_text self.old.facts v.now self.old.live.last }
-        requires pass { pass.old.place ≡ throttle.now.place }
-        requires owned { IsOwned throttle.now.place self.old.live.granted }
+        requires passes { ArePassesOf throttles.now passes.old }
+        requires owned { AreHeld (places throttles.now) self.old.live.granted }
         ensures value { IfSome self.new.live.feed (λ d. IsTakenFeed v.now (E.seen end) decoder.rest self.old d × (self.new ≡ after_taking v.now d self.old)) }
         ensures feed { IsSome self.new.live.feed }
         ensures judged { MakesJudgement v.now (E.seen end).id decoder.rest self.old self.new }
         ensures closed { option_map E.seen result.closed ≡ closed_of self.old.live.feed }
         ensures aftermath { IsAftermath (effects_of (told_of self.old.facts v.now) self.old.live.session) self.old.live.feed (option_map E.seen result.closed) result.discarded result.remote_reset }
-        ensures place { pass.new.place ≡ pass.old.place }
-        ensures word { IsAlone throttle.now.place → pass.new.word ≡ pass.old.word - held self.old.live.granted }
+        ensures passes { ArePassesOf throttles.now passes.new }
+        ensures word { Return (held self.old.live.granted) throttles.now passes.old passes.new }
     {
         m2_feed::a_feed_begins_beside_its_replay();
         let told = self.told_of(v);
         let feed = Feed::taken_over(self.alloc, end, decoder, acceptance);
         let aftermath = self
             .live
-            .take(told, feed, resumed_by_ask(&v.ask), throttle, pass);
+            .take(told, feed, resumed_by_ask(&v.ask), throttles, passes);
         self.dials = false;
         self.top = v.number;
         aftermath

@@ -8,7 +8,7 @@
 //! journal, knows no plan and no clock, and does nothing by itself.
 //!
 //! Inside it is [`Live`], what a step can change: the session with its queue, the last accepted number, and the feed
-//! with what a throttle granted for it. [`Live::tell`] tells the session of an event and does what the table of steps
+//! with what was granted for it. [`Live::tell`] tells the session of an event and does what the table of steps
 //! says then. The functions that end in `_on` are one call of a feed each, where there is one. [`Waits`] says when a
 //! side may dial again. By itself it knows no replay, no facts of its side and no rule of when an event may come.
 //!
@@ -32,6 +32,7 @@ mod laws;
 mod live;
 mod live_accepting;
 mod live_asking;
+mod live_granting;
 mod live_numbering;
 mod live_passing;
 mod news;
@@ -54,10 +55,9 @@ mod waits;
 pub use accepting::CoreAccepted;
 pub use aftermath::Aftermath;
 pub use asking::CoreAsk;
-pub use granting::CoreGrant;
 pub use hearing::raise;
 pub use laws::waits_double;
-pub use live::{Live, give_back};
+pub use live::Live;
 pub use live_asking::{ask_len, cookie_at};
 pub use m2_queues::OutQueues;
 pub use next::{CoreFront, CoreNext};

@@ -4,8 +4,8 @@ ghost use Rattle.std.specs.Prelude.{◌≡◌, ◌-◌, ◌<◌, ◌≤◌, ◌^
 ghost use Rattle.m2_queues.specs.OutQueues.{IsNumbered};
 ghost use Rattle.m2_session.specs.Steps as table;
 ghost use Rattle.m2_session.specs.Steps.{HasFollower, step_of};
-ghost use Rattle.m2_shared.specs.Place.{IsAlone};
-ghost use Rattle.m2_core.specs.LiveNow.{IsOwned, held, is_waiting};
+ghost use Rattle.m2_shared.specs.Gates.{AreHeld, ArePassesOf, Return, held, places};
+ghost use Rattle.m2_core.specs.LiveNow.{HoldsNothing, is_waiting};
 ghost use Rattle.m2_core.specs.Effects.{IsAftermath, moved, moved_last, moved_life, tells};
 ghost use Rattle.m2_core.specs.LiveCalls.{after_counted};
 
@@ -15,7 +15,7 @@ use m2_fabric::End;
 use m2_feed::Feed;
 use m2_queues::OutQueues;
 use m2_session::{Effects, Event, Session, step};
-use m2_shared::{Grant, TakePass, Throttle};
+use m2_shared::{PeerGrants, TakePasses, Throttles};
 use std::marker::Model;
 
 /// What a session's step can change: the session, the outgoing queue, the last accepted number, the name of
@@ -23,13 +23,13 @@ use std::marker::Model;
 /// [`end`](Live::end). Whoever holds it keeps its parts in step with each other.
 ///
 /// Of a step: [`tell`](Live::tell), [`heed`](Live::heed), [`tell_if`](Live::tell_if), [`take`](Live::take).
-/// Of the front of the feed: [`pass_front`](Live::pass_front), [`note_front`](Live::note_front),
-/// [`accept_front`](Live::accept_front), [`hearing`](Live::hearing), [`take_answer`](Live::take_answer),
-/// [`obey`](Live::obey). Of what is composed: [`reserve_ask`](Live::reserve_ask),
+/// Of the front of the feed: [`ask_stages`](Live::ask_stages), [`pass_front`](Live::pass_front),
+/// [`note_front`](Live::note_front), [`accept_front`](Live::accept_front), [`hearing`](Live::hearing),
+/// [`take_answer`](Live::take_answer), [`obey`](Live::obey). Of what is composed: [`reserve_ask`](Live::reserve_ask),
 /// [`compose_ask`](Live::compose_ask), [`number`](Live::number). Of the queue: [`count`](Live::count),
 /// [`waits`](Live::waits).
 ///
-/// A call that takes a throttle has the condition that the pass and what is granted were made from it.
+/// A call that takes throttles has the condition that the passes and what is granted were made from them.
 pub struct Live<E: End> {
     /// What is remembered of the peer.
     pub session: Session,
@@ -45,8 +45,8 @@ pub struct Live<E: End> {
     pub resumed: u64,
     /// The one open socket.
     pub feed: Option<Feed<E>>,
-    /// What a throttle has granted for the MESSAGE that isn't finished.
-    pub granted: Option<Grant>,
+    /// What the stages have granted so far for the MESSAGE that isn't finished.
+    pub granted: PeerGrants,
 }
 
 impl<E: End> Model for Live<E> {
@@ -63,20 +63,6 @@ impl<E: End> Model for Live<E> {
       feed = l.feed;
       granted = l.granted;
     } };
-}
-
-/// Gives back what was granted, where something was.
-pub fn give_back(granted: &mut Option<Grant>, throttle: &Throttle, pass: &mut TakePass)
-    requires pass { pass.old.place ≡ throttle.now.place }
-    requires owned { IsOwned throttle.now.place granted.old }
-    ensures granted { granted.new ≡ None }
-    ensures place { pass.new.place ≡ pass.old.place }
-    ensures word { IsAlone throttle.now.place → pass.new.word ≡ pass.old.word - held granted.old }
-{
-    match granted.take() {
-        Some(grant) => throttle.give(pass, grant),
-        None => {}
-    }
 }
 
 /// What effects do to the queue, to the last accepted number, and to the name of the life, where the session
@@ -109,17 +95,22 @@ impl<E: End> Live<E> {
 
     /// Tells the session of an event, and does what it owes then. What was granted for a feed that is
     /// closed is given back.
-    pub fn tell(&mut self, event: Event, throttle: &Throttle, pass: &mut TakePass) -> Aftermath<E>
+    pub fn tell(
+        &mut self,
+        event: Event,
+        throttles: &Throttles,
+        passes: &mut TakePasses,
+    ) -> Aftermath<E>
         requires lawful { IsTrue (table.is_lawful self.old.session event) }
         requires connect { self.old.session.connect < 2 ^ 64 - 1 }
         requires follower { HasFollower event }
-        requires pass { pass.old.place ≡ throttle.now.place }
-        requires owned { IsOwned throttle.now.place self.old.granted }
+        requires passes { ArePassesOf throttles.now passes.old }
+        requires owned { AreHeld (places throttles.now) self.old.granted }
         ensures live { self.new ≡ tells event self.old }
         ensures aftermath { IsAftermath (step_of self.old.session event).effects self.old.feed (option_map E.seen result.closed) result.discarded result.remote_reset }
-        ensures place { pass.new.place ≡ pass.old.place }
-        ensures word { IsAlone throttle.now.place → (step_of self.old.session event).effects.close ≡ true → pass.new.word ≡ pass.old.word - held self.old.granted }
-        ensures kept { (step_of self.old.session event).effects.close ≡ false → pass.new ≡ pass.old }
+        ensures passes { ArePassesOf throttles.now passes.new }
+        ensures word { (step_of self.old.session event).effects.close ≡ true → Return (held self.old.granted) throttles.now passes.old passes.new }
+        ensures kept { (step_of self.old.session event).effects.close ≡ false → passes.new ≡ passes.old }
     {
         let (session, effects) = step(self.session, event);
         self.session = session;
@@ -132,7 +123,7 @@ impl<E: End> Live<E> {
         );
         let mut closed = None;
         if effects.close {
-            give_back(&mut self.granted, throttle, pass);
+            self.granted.take().back(throttles, passes);
             self.resumed = 0;
             closed = close_on(&mut self.feed);
         }
@@ -148,7 +139,7 @@ impl<E: End> Live<E> {
         requires lawful { IsTrue (table.is_lawful self.old.session event) }
         requires connect { self.old.session.connect < 2 ^ 64 - 1 }
         requires follower { HasFollower event }
-        requires ungranted { self.old.granted ≡ None }
+        requires ungranted { HoldsNothing self.old.granted }
         ensures live { self.new ≡ tells event self.old }
         ensures aftermath { IsAftermath (step_of self.old.session event).effects self.old.feed (option_map E.seen result.closed) result.discarded result.remote_reset }
     {
@@ -187,12 +178,12 @@ impl<E: End> Live<E> {
     }
 
     /// Gives back what is held, and gives the feed.
-    pub fn end(self, throttle: &Throttle, pass: &mut TakePass) -> Option<Feed<E>>
-        requires pass { pass.old.place ≡ throttle.now.place }
-        requires owned { IsOwned throttle.now.place self.granted }
+    pub fn end(self, throttles: &Throttles, passes: &mut TakePasses) -> Option<Feed<E>>
+        requires passes { ArePassesOf throttles.now passes.old }
+        requires owned { AreHeld (places throttles.now) self.granted }
         ensures feed { result ≡ self.feed }
-        ensures place { pass.new.place ≡ pass.old.place }
-        ensures word { IsAlone throttle.now.place → pass.new.word ≡ pass.old.word - held self.granted }
+        ensures passes { ArePassesOf throttles.now passes.new }
+        ensures word { Return (held self.granted) throttles.now passes.old passes.new }
     {
         let Live {
             session: _,
@@ -203,9 +194,7 @@ impl<E: End> Live<E> {
             feed,
             granted,
         } = self;
-        if let Some(grant) = granted {
-            throttle.give(pass, grant);
-        }
+        granted.back(throttles, passes);
         feed
     }
 }

@@ -1,7 +1,6 @@
 //! The message at the front, accepted.
 
-ghost use Rattle.std.specs.Prelude.{◌≡◌, OnErr, true};
-ghost use Rattle.std.specs.Option.{is_some};
+ghost use Rattle.std.specs.Prelude.{◌≡◌, OnErr};
 ghost use Rattle.m2_feed.specs.declared.frame_heard.FrameHeard.TheVariants as heard;
 ghost use Rattle.m2_feed.specs.declared.hearer.Hearer.{Hearer};
 ghost use Rattle.m2_core.specs.LiveNow.{OnFeedNow};
@@ -14,14 +13,13 @@ use m2_bytes::NoMemory;
 use m2_fabric::End;
 use m2_feed::Feed;
 use m2_message::Message;
-use m2_shared::Grant;
+use m2_shared::PeerGrants;
 
 impl<E: End> Live<E> {
     /// Accepts the message at the front, which is the one with this number, and hands it out with what was
     /// granted for it. Its parts are copied once. Err for want of memory changes nothing.
-    pub fn accept_front(&mut self, number: u64) -> Result<(Message, Grant), NoMemory>
+    pub fn accept_front(&mut self, number: u64) -> Result<(Message, PeerGrants), NoMemory>
         requires heard { (h : Hearer) × OnFeedNow self.old.feed (λ v. Hears h (heard.Brings number) v.reading) }
-        requires granted { is_some self.old.granted ≡ true }
         ensures { LiveAccepts result number self.old self.new }
     {
         let message = match take_message(&mut self.feed, number) {
@@ -29,10 +27,7 @@ impl<E: End> Live<E> {
             Err(NoMemory) => return Err(NoMemory),
         };
         self.last = number;
-        match self.granted.take() {
-            Some(grant) => Ok((message, grant)),
-            None => unreachable!(),
-        }
+        Ok((message, self.granted.take()))
     }
 }
 

@@ -5,17 +5,16 @@ ghost use Rattle.std.specs.Option.{is_some};
 ghost use Rattle.m2_feed.specs.Calls.{Owes};
 ghost use Rattle.m2_feed.specs.FeedNow.{is_framing};
 ghost use Rattle.m2_feed.specs.declared.frame_heard.FrameHeard.TheVariants as heard;
-ghost use Rattle.m2_shared.specs.Place.{IsAlone};
-ghost use Rattle.m2_core.specs.LiveNow.{IsOwned, OnFeedNow, held, is_ready};
+ghost use Rattle.m2_shared.specs.Gates.{AreHeld, ArePassesOf, held, places};
+ghost use Rattle.m2_core.specs.LiveNow.{OnFeedNow, is_ready};
 ghost use Rattle.m2_core.specs.Effects.{IsAftermath};
 ghost use Rattle.m2_core.specs.OnFeed.{HasNoFrame};
 ghost use Rattle.m2_core.specs.Agrees.{IsBroken};
 ghost use Rattle.m2_core.specs.Front.{HearsOn, front_of, heard_by, hearer_of, resumption_at, resumption_of, tells};
-ghost use Rattle.m2_core.specs.Next.{CanHeed, IsNext, MayObeyIfReset, effects_next, granted_next, size_front, word_next};
+ghost use Rattle.m2_core.specs.Next.{CanHeed, IsNext, MayObeyIfReset, WordsNext, effects_next, granted_next, size_front};
 
 use crate::accepting::CoreAccepted;
 use crate::front_laws::front_laws;
-use crate::granting::CoreGrant;
 use crate::resting::CoreRest;
 use crate::side::Core;
 use crate::{Aftermath, front_on};
@@ -24,7 +23,7 @@ use m2_fabric::End;
 use m2_feed::{FrameHeard, Hearer, WireFault};
 use m2_frame::Tag;
 use m2_session::Phase;
-use m2_shared::{TakePass, Throttle};
+use m2_shared::{More, Stage, TakePasses, Throttles};
 
 /// What was done with the front of the feed. It may hold a grant, so it can't be dropped.
 pub enum CoreNext {
@@ -32,7 +31,7 @@ pub enum CoreNext {
     Rests,
     /// A text was passed of which no entry is made.
     Passed,
-    /// The size of the MESSAGE that is on its way is granted.
+    /// Each stage has granted for the MESSAGE that is on its way.
     Granted,
     /// The peer's acknowledgement up to this number was counted: the entry Acked. What acknowledges stays
     /// at the front.
@@ -41,10 +40,11 @@ pub enum CoreNext {
     Accepted(CoreAccepted),
     /// A reset with this mark is next, which is to be obeyed. Nothing was done.
     Resets { full: bool },
-    /// So many bytes are out that the size of a MESSAGE has to wait. Nothing was done.
-    Full { held: u64 },
-    /// Another thread took or gave at that moment. Nothing was done, and one may try again.
-    Again { seen: u64, now: u64 },
+    /// So much is out at this stage that a MESSAGE has to wait. What the stages before it have granted is held.
+    Full { stage: Stage, held: u64 },
+    /// Another thread took or gave at this stage at that moment; one may try again. What the stages before it
+    /// have granted is held.
+    Again { stage: Stage, seen: u64, now: u64 },
     /// What is there may not come, or can't be read: the feed was closed for this cause, the entry Closed.
     Fault(WireFault),
     /// Nothing was done.
@@ -78,38 +78,38 @@ impl<E: End> Core<E> {
     /// most. What acknowledges is counted first, and stays at the front; a message whose number isn't above
     /// the last is passed, and one that skips a number is a fault.
     #[tactic(auto, using(crate::proofs::Nexts::resumed_can, crate::proofs::Nexts::next_resumed, crate::proofs::Nexts::next_front, crate::proofs::Nexts::reset_on, crate::proofs::Helds::owned_on))]
-    pub fn next(&mut self, throttle: &Throttle, pass: &mut TakePass) -> CoreFront<E>
+    pub fn next(&mut self, throttles: &Throttles, passes: &mut TakePasses) -> CoreFront<E>
         requires signed { OnFeedNow self.old.live.feed (λ v. is_framing v.reading ≡ true) }
-        requires pass { pass.old.place ≡ throttle.now.place }
-        requires owned { IsOwned throttle.now.place self.old.live.granted }
-        ensures next { OnFeedNow self.old.live.feed (λ v. IsNext (record { throttle = throttle.now; before = pass.old; behind = pass.new }) result.next (heard_by self.old v.reading) self.old self.new) }
+        requires passes { ArePassesOf throttles.now passes.old }
+        requires owned { AreHeld (places throttles.now) self.old.live.granted }
+        ensures next { OnFeedNow self.old.live.feed (λ v. IsNext (record { throttles = throttles.now; before = passes.old; behind = passes.new }) result.next (heard_by self.old v.reading) self.old self.new) }
         ensures aftermath { IsAftermath (effects_next result.next self.old.live) self.old.live.feed (option_map E.seen result.aftermath.closed) result.aftermath.discarded result.aftermath.remote_reset }
         ensures resets { MayObeyIfReset result.next self.new }
-        ensures owned { IsOwned throttle.now.place self.new.live.granted }
-        ensures place { pass.new.place ≡ pass.old.place }
-        ensures word { IsAlone throttle.now.place → pass.new.word ≡ word_next result.next pass.old.word (held self.old.live.granted) (held self.new.live.granted) }
+        ensures owned { AreHeld (places throttles.now) self.new.live.granted }
+        ensures passes { ArePassesOf throttles.now passes.new }
+        ensures word { WordsNext result.next (record { throttles = throttles.now; before = passes.old; behind = passes.new }) (held self.old.live.granted) (held self.new.live.granted) }
     {
         match self.resumption() {
-            Some(heard) => self.heed(heard, throttle, pass),
-            None => self.next_text(throttle, pass),
+            Some(heard) => self.heed(heard, throttles, passes),
+            None => self.next_text(throttles, passes),
         }
     }
 
     /// The same of the text at the front.
     #[tactic(auto, using(crate::proofs::Heeded::hears_can, crate::proofs::Nexts::next_heard))]
-    fn next_text(&mut self, throttle: &Throttle, pass: &mut TakePass) -> CoreFront<E>
+    fn next_text(&mut self, throttles: &Throttles, passes: &mut TakePasses) -> CoreFront<E>
         requires signed { OnFeedNow self.old.live.feed (λ v. is_framing v.reading ≡ true) }
-        requires pass { pass.old.place ≡ throttle.now.place }
-        requires owned { IsOwned throttle.now.place self.old.live.granted }
-        ensures next { OnFeedNow self.old.live.feed (λ v. IsNext (record { throttle = throttle.now; before = pass.old; behind = pass.new }) result.next (front_of (hearer_of self.old) v.reading) self.old self.new) }
+        requires passes { ArePassesOf throttles.now passes.old }
+        requires owned { AreHeld (places throttles.now) self.old.live.granted }
+        ensures next { OnFeedNow self.old.live.feed (λ v. IsNext (record { throttles = throttles.now; before = passes.old; behind = passes.new }) result.next (front_of (hearer_of self.old) v.reading) self.old self.new) }
         ensures aftermath { IsAftermath (effects_next result.next self.old.live) self.old.live.feed (option_map E.seen result.aftermath.closed) result.aftermath.discarded result.aftermath.remote_reset }
-        ensures place { pass.new.place ≡ pass.old.place }
-        ensures word { IsAlone throttle.now.place → pass.new.word ≡ word_next result.next pass.old.word (held self.old.live.granted) (held self.new.live.granted) }
+        ensures passes { ArePassesOf throttles.now passes.new }
+        ensures word { WordsNext result.next (record { throttles = throttles.now; before = passes.old; behind = passes.new }) (held self.old.live.granted) (held self.new.live.granted) }
     {
         front_laws();
         match self.hear_front() {
-            Some(heard) => self.heed(heard, throttle, pass),
-            None => self.next_rest(throttle, pass),
+            Some(heard) => self.heed(heard, throttles, passes),
+            None => self.next_rest(throttles, passes),
         }
     }
 
@@ -158,22 +158,27 @@ impl<E: End> Core<E> {
 
     /// Does what was heard.
     #[tactic(auto, using(crate::proofs::Nexts::is_fed))]
-    fn heed(&mut self, heard: FrameHeard, throttle: &Throttle, pass: &mut TakePass) -> CoreFront<E>
+    fn heed(
+        &mut self,
+        heard: FrameHeard,
+        throttles: &Throttles,
+        passes: &mut TakePasses,
+    ) -> CoreFront<E>
         requires can { CanHeed heard self.old }
         requires signed { OnFeedNow self.old.live.feed (λ v. is_framing v.reading ≡ true) }
-        requires pass { pass.old.place ≡ throttle.now.place }
-        requires owned { IsOwned throttle.now.place self.old.live.granted }
-        ensures next { IsNext (record { throttle = throttle.now; before = pass.old; behind = pass.new }) result.next (tells heard) self.old self.new }
+        requires passes { ArePassesOf throttles.now passes.old }
+        requires owned { AreHeld (places throttles.now) self.old.live.granted }
+        ensures next { IsNext (record { throttles = throttles.now; before = passes.old; behind = passes.new }) result.next (tells heard) self.old self.new }
         ensures aftermath { IsAftermath (effects_next result.next self.old.live) self.old.live.feed (option_map E.seen result.aftermath.closed) result.aftermath.discarded result.aftermath.remote_reset }
-        ensures place { pass.new.place ≡ pass.old.place }
-        ensures word { IsAlone throttle.now.place → pass.new.word ≡ word_next result.next pass.old.word (held self.old.live.granted) (held self.new.live.granted) }
+        ensures passes { ArePassesOf throttles.now passes.new }
+        ensures word { WordsNext result.next (record { throttles = throttles.now; before = passes.old; behind = passes.new }) (held self.old.live.granted) (held self.new.live.granted) }
     {
         match heard {
             FrameHeard::Nothing => {
-                self.pass_frame(throttle, pass);
+                self.pass_frame(throttles, passes);
                 quiet(CoreNext::Passed)
             }
-            FrameHeard::Stamp(stamp) => match self.pass_keepalive(stamp, throttle, pass) {
+            FrameHeard::Stamp(stamp) => match self.pass_keepalive(stamp, throttles, passes) {
                 Ok(()) => quiet(CoreNext::Passed),
                 Err(NoMemory) => quiet(CoreNext::NoMemory),
             },
@@ -186,7 +191,7 @@ impl<E: End> Core<E> {
                 Err(NoMemory) => quiet(CoreNext::NoMemory),
             },
             FrameHeard::Resets { full } => quiet(CoreNext::Resets { full }),
-            FrameHeard::Fault(cause) => self.close_for(cause, throttle, pass),
+            FrameHeard::Fault(cause) => self.close_for(cause, throttles, passes),
         }
     }
 
@@ -195,19 +200,19 @@ impl<E: End> Core<E> {
     fn close_for(
         &mut self,
         cause: WireFault,
-        throttle: &Throttle,
-        pass: &mut TakePass,
+        throttles: &Throttles,
+        passes: &mut TakePasses,
     ) -> CoreFront<E>
         requires broken { IsBroken self.old }
         requires fed { is_some self.old.live.feed ≡ true }
-        requires pass { pass.old.place ≡ throttle.now.place }
-        requires owned { IsOwned throttle.now.place self.old.live.granted }
-        ensures next { IsNext (record { throttle = throttle.now; before = pass.old; behind = pass.new }) result.next (tells (heard.Fault cause)) self.old self.new }
+        requires passes { ArePassesOf throttles.now passes.old }
+        requires owned { AreHeld (places throttles.now) self.old.live.granted }
+        ensures next { IsNext (record { throttles = throttles.now; before = passes.old; behind = passes.new }) result.next (tells (heard.Fault cause)) self.old self.new }
         ensures aftermath { IsAftermath (effects_next result.next self.old.live) self.old.live.feed (option_map E.seen result.aftermath.closed) result.aftermath.discarded result.aftermath.remote_reset }
-        ensures place { pass.new.place ≡ pass.old.place }
-        ensures word { IsAlone throttle.now.place → pass.new.word ≡ word_next result.next pass.old.word (held self.old.live.granted) (held self.new.live.granted) }
+        ensures passes { ArePassesOf throttles.now passes.new }
+        ensures word { WordsNext result.next (record { throttles = throttles.now; before = passes.old; behind = passes.new }) (held self.old.live.granted) (held self.new.live.granted) }
     {
-        let aftermath = self.fault(throttle, pass);
+        let aftermath = self.fault(throttles, passes);
         CoreFront {
             next: CoreNext::Fault(cause),
             aftermath,
@@ -216,56 +221,56 @@ impl<E: End> Core<E> {
 
     /// The same where no whole frame stands at the front.
     #[tactic(auto, using(crate::proofs::Nexts::rest_breaks, crate::proofs::Nexts::rest_owes, crate::proofs::Nexts::next_rests, crate::proofs::Nexts::next_passed, crate::proofs::Nexts::next_faulted, crate::proofs::Nexts::next_sized, crate::proofs::Helds::word_faulted, crate::proofs::Helds::word_sized))]
-    fn next_rest(&mut self, throttle: &Throttle, pass: &mut TakePass) -> CoreFront<E>
+    fn next_rest(&mut self, throttles: &Throttles, passes: &mut TakePasses) -> CoreFront<E>
         requires signed { OnFeedNow self.old.live.feed (λ v. is_framing v.reading ≡ true) }
         requires none { HasNoFrame self.old.live.feed }
-        requires pass { pass.old.place ≡ throttle.now.place }
-        requires owned { IsOwned throttle.now.place self.old.live.granted }
-        ensures next { OnFeedNow self.old.live.feed (λ v. IsNext (record { throttle = throttle.now; before = pass.old; behind = pass.new }) result.next (front_of (hearer_of self.old) v.reading) self.old self.new) }
+        requires passes { ArePassesOf throttles.now passes.old }
+        requires owned { AreHeld (places throttles.now) self.old.live.granted }
+        ensures next { OnFeedNow self.old.live.feed (λ v. IsNext (record { throttles = throttles.now; before = passes.old; behind = passes.new }) result.next (front_of (hearer_of self.old) v.reading) self.old self.new) }
         ensures aftermath { IsAftermath (effects_next result.next self.old.live) self.old.live.feed (option_map E.seen result.aftermath.closed) result.aftermath.discarded result.aftermath.remote_reset }
-        ensures place { pass.new.place ≡ pass.old.place }
-        ensures word { IsAlone throttle.now.place → pass.new.word ≡ word_next result.next pass.old.word (held self.old.live.granted) (held self.new.live.granted) }
+        ensures passes { ArePassesOf throttles.now passes.new }
+        ensures word { WordsNext result.next (record { throttles = throttles.now; before = passes.old; behind = passes.new }) (held self.old.live.granted) (held self.new.live.granted) }
     {
         front_laws();
-        match self.rest(throttle, pass) {
+        match self.rest(throttles, passes) {
             CoreRest::Rests => quiet(CoreNext::Rests),
             CoreRest::Passed => quiet(CoreNext::Passed),
-            CoreRest::Fault(f) => self.close_for(WireFault::Frame(f), throttle, pass),
-            CoreRest::Asks(n) => self.next_size(n, throttle, pass),
+            CoreRest::Fault(f) => self.close_for(WireFault::Frame(f), throttles, passes),
+            CoreRest::Asks(n) => self.next_size(n, throttles, passes),
         }
     }
 
     /// The same where a MESSAGE asks for its size.
     #[tactic(auto, using(crate::proofs::Nexts::is_bounded, crate::proofs::Heeded::early_breaks, crate::proofs::Nexts::size_fed, crate::proofs::Nexts::next_granted, crate::proofs::Nexts::next_early, crate::proofs::Helds::word_granted))]
-    fn next_size(&mut self, n: u64, throttle: &Throttle, pass: &mut TakePass) -> CoreFront<E>
+    fn next_size(&mut self, n: u64, throttles: &Throttles, passes: &mut TakePasses) -> CoreFront<E>
         requires owes { OnFeedNow self.old.live.feed (λ v. Owes v.reading n) }
-        requires pass { pass.old.place ≡ throttle.now.place }
-        requires owned { IsOwned throttle.now.place self.old.live.granted }
-        ensures next { IsNext (record { throttle = throttle.now; before = pass.old; behind = pass.new }) result.next (size_front (is_ready self.old.live) n) self.old self.new }
+        requires passes { ArePassesOf throttles.now passes.old }
+        requires owned { AreHeld (places throttles.now) self.old.live.granted }
+        ensures next { IsNext (record { throttles = throttles.now; before = passes.old; behind = passes.new }) result.next (size_front (is_ready self.old.live) n) self.old self.new }
         ensures aftermath { IsAftermath (effects_next result.next self.old.live) self.old.live.feed (option_map E.seen result.aftermath.closed) result.aftermath.discarded result.aftermath.remote_reset }
-        ensures place { pass.new.place ≡ pass.old.place }
-        ensures word { IsAlone throttle.now.place → pass.new.word ≡ word_next result.next pass.old.word (held self.old.live.granted) (held self.new.live.granted) }
+        ensures passes { ArePassesOf throttles.now passes.new }
+        ensures word { WordsNext result.next (record { throttles = throttles.now; before = passes.old; behind = passes.new }) (held self.old.live.granted) (held self.new.live.granted) }
     {
         front_laws();
         if self.live.session.phase != Phase::Ready {
             let cause = WireFault::Unexpected {
                 tag: Tag::Message.number(),
             };
-            return self.close_for(cause, throttle, pass);
+            return self.close_for(cause, throttles, passes);
         }
-        let answer = self.grant(n, throttle, pass);
+        let answer = self.grant(n, throttles, passes);
         quiet(granted_next(answer))
     }
 }
 
-/// The answer of a throttle.
-fn granted_next(answer: CoreGrant) -> CoreNext
+/// The answer of the stages.
+fn granted_next(answer: More) -> CoreNext
     ensures { result ≡ granted_next answer }
 {
     match answer {
-        CoreGrant::Granted => CoreNext::Granted,
-        CoreGrant::Full { held } => CoreNext::Full { held },
-        CoreGrant::Again { seen, now } => CoreNext::Again { seen, now },
+        More::Whole => CoreNext::Granted,
+        More::Full { stage, held } => CoreNext::Full { stage, held },
+        More::Again { stage, seen, now } => CoreNext::Again { stage, seen, now },
     }
 }
 

@@ -2,8 +2,7 @@
 
 ghost use Rattle.std.specs.Prelude.{◌≡◌, ◌-◌, IsErr, IsOk};
 ghost use Rattle.m2_feed.specs.declared.frame_heard.FrameHeard.TheVariants as heard;
-ghost use Rattle.m2_shared.specs.Place.{IsAlone};
-ghost use Rattle.m2_core.specs.LiveNow.{IsOwned, held};
+ghost use Rattle.m2_shared.specs.Gates.{AreHeld, ArePassesOf, Return, held, places};
 ghost use Rattle.m2_core.specs.Front.{HearsOn};
 ghost use Rattle.m2_core.specs.Passing.{HasNoted, HasPassed};
 
@@ -12,22 +11,22 @@ use crate::side::Core;
 use m2_bytes::NoMemory;
 use m2_control::Keepalive;
 use m2_fabric::End;
-use m2_shared::{TakePass, Throttle};
+use m2_shared::{TakePasses, Throttles};
 
 impl<E: End> Core<E> {
     /// Passes the frame at the front, which says nothing that is noted, and gives back what was held for it.
     /// It makes no entry and takes no memory.
     #[tactic(auto, using(crate::proofs::Passed::frame_there, crate::proofs::Passed::keeps_to, crate::proofs::Passed::passed_to))]
-    pub fn pass_frame(&mut self, throttle: &Throttle, pass: &mut TakePass)
+    pub fn pass_frame(&mut self, throttles: &Throttles, passes: &mut TakePasses)
         requires heard { HearsOn self.old heard.Nothing }
-        requires pass { pass.old.place ≡ throttle.now.place }
-        requires owned { IsOwned throttle.now.place self.old.live.granted }
+        requires passes { ArePassesOf throttles.now passes.old }
+        requires owned { AreHeld (places throttles.now) self.old.live.granted }
         ensures passed { HasPassed self.old self.new }
-        ensures place { pass.new.place ≡ pass.old.place }
-        ensures word { IsAlone throttle.now.place → pass.new.word ≡ pass.old.word - held self.old.live.granted }
+        ensures passes { ArePassesOf throttles.now passes.new }
+        ensures word { Return (held self.old.live.granted) throttles.now passes.old passes.new }
     {
         front_laws();
-        self.live.pass_front(throttle, pass);
+        self.live.pass_front(throttles, passes);
     }
 
     /// Passes the keepalive at the front, and notes that it is to be answered with its stamp. It makes no
@@ -36,18 +35,18 @@ impl<E: End> Core<E> {
     pub fn pass_keepalive(
         &mut self,
         stamp: Keepalive,
-        throttle: &Throttle,
-        pass: &mut TakePass,
+        throttles: &Throttles,
+        passes: &mut TakePasses,
     ) -> Result<(), NoMemory>
         requires heard { HearsOn self.old (heard.Stamp stamp) }
-        requires pass { pass.old.place ≡ throttle.now.place }
-        requires owned { IsOwned throttle.now.place self.old.live.granted }
+        requires passes { ArePassesOf throttles.now passes.old }
+        requires owned { AreHeld (places throttles.now) self.old.live.granted }
         ensures noted { HasNoted result stamp self.old self.new }
-        ensures place { pass.new.place ≡ pass.old.place }
-        ensures word { IsOk result → IsAlone throttle.now.place → pass.new.word ≡ pass.old.word - held self.old.live.granted }
-        ensures kept { IsErr result → pass.new ≡ pass.old }
+        ensures passes { ArePassesOf throttles.now passes.new }
+        ensures word { IsOk result → Return (held self.old.live.granted) throttles.now passes.old passes.new }
+        ensures kept { IsErr result → passes.new ≡ passes.old }
     {
         front_laws();
-        self.live.note_front(stamp, throttle, pass)
+        self.live.note_front(stamp, throttles, passes)
     }
 }

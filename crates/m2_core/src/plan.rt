@@ -6,8 +6,7 @@ ghost use Rattle.m2_journal.specs.Plan.{Planned, to_post};
 ghost use Rattle.m2_message.specs.Message.{content_of};
 ghost use Rattle.m2_session.specs.declared.event.Event.TheVariants as event;
 ghost use Rattle.m2_session.specs.Steps.{step_of};
-ghost use Rattle.m2_shared.specs.Place.{IsAlone};
-ghost use Rattle.m2_core.specs.LiveNow.{IsOwned, held};
+ghost use Rattle.m2_shared.specs.Gates.{AreHeld, ArePassesOf, Return, held, places};
 ghost use Rattle.m2_core.specs.Effects.{IsAftermath};
 ghost use Rattle.m2_core.specs.LiveCalls.{after_posted};
 ghost use Rattle.m2_core.specs.Agrees.{LeadsOn, MayCome};
@@ -20,7 +19,7 @@ use m2_bytes::NoMemory;
 use m2_fabric::End;
 use m2_message::Message;
 use m2_session::{Event, Phase};
-use m2_shared::{TakePass, Throttle};
+use m2_shared::{TakePasses, Throttles};
 
 impl<E: End> Core<E> {
     /// Queues a copy of a message: the entry Post. Err for want of memory changes nothing.
@@ -49,17 +48,17 @@ impl<E: End> Core<E> {
 
     /// Gives the session up: the entry Down. What is owed then is told by the aftermath. By the plan it
     /// may come at any time, and else where a number is used up.
-    pub fn down(&mut self, throttle: &Throttle, pass: &mut TakePass) -> Aftermath<E>
-        requires pass { pass.old.place ≡ throttle.now.place }
-        requires owned { IsOwned throttle.now.place self.old.live.granted }
+    pub fn down(&mut self, throttles: &Throttles, passes: &mut TakePasses) -> Aftermath<E>
+        requires passes { ArePassesOf throttles.now passes.old }
+        requires owned { AreHeld (places throttles.now) self.old.live.granted }
         ensures value { self.new ≡ after_down self.old }
         ensures leads { (planned : Bool) (step : Option Planned) → LeadsOn (item.down planned step) self.old self.new }
         ensures may { is_exhausted self.old ≡ true → (step : Option Planned) → MayCome (item.down false step) self.old }
         ensures aftermath { IsAftermath (step_of self.old.live.session event.MarkedDown).effects self.old.live.feed (option_map E.seen result.closed) result.discarded result.remote_reset }
-        ensures place { pass.new.place ≡ pass.old.place }
-        ensures word { IsAlone throttle.now.place → pass.new.word ≡ pass.old.word - held self.old.live.granted }
+        ensures passes { ArePassesOf throttles.now passes.new }
+        ensures word { Return (held self.old.live.granted) throttles.now passes.old passes.new }
     {
-        let aftermath = self.live.tell(Event::MarkedDown, throttle, pass);
+        let aftermath = self.live.tell(Event::MarkedDown, throttles, passes);
         self.dials = false;
         aftermath
     }

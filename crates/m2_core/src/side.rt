@@ -3,8 +3,8 @@
 ghost use Rattle.std.specs.Prelude.{◌≡◌, ◌<◌, ◌-◌, option_map};
 ghost use Rattle.m2_session.specs.declared.cookie.TheConstants.{MOST_PLACES};
 ghost use Rattle.m2_journal.specs.State.{start};
-ghost use Rattle.m2_shared.specs.Place.{IsAlone};
-ghost use Rattle.m2_core.specs.LiveNow.{IsOwned, held, is_waiting};
+ghost use Rattle.m2_shared.specs.Gates.{AreHeld, ArePassesOf, Return, dispatch, held, places};
+ghost use Rattle.m2_core.specs.LiveNow.{is_waiting};
 ghost use Rattle.m2_core.specs.Agrees.{Agrees};
 ghost use Rattle.m2_core.specs.Calls.{is_exhausted, lacks_connect_number, lacks_message_number};
 ghost use Rattle.m2_core.specs.CoreNow.{at_start, may_dial};
@@ -18,7 +18,7 @@ use m2_journal::NodeFacts;
 use m2_policy::Policy;
 use m2_queues::OutQueues;
 use m2_session::{Phase, Session};
-use m2_shared::{TakePass, Throttle};
+use m2_shared::{PeerGrants, PeerType, TakePasses, Throttles};
 use std::alloc::Global;
 use std::marker::Model;
 
@@ -38,7 +38,7 @@ use std::marker::Model;
 /// [`verdict`](Core::verdict); then [`answered`](Core::answered), or [`acceptance`](Core::acceptance) and
 /// [`take_over`](Core::take_over). Behind a resumption: [`count_resumption`](Core::count_resumption).
 ///
-/// A call that takes a throttle has the condition that the pass and what the core holds were made from it.
+/// A call that takes throttles has the condition that the passes and what the core holds were made from them.
 pub struct Core<E: End> {
     pub(crate) alloc: Global,
     pub(crate) mine: Addr,
@@ -77,10 +77,17 @@ impl<E: End> Model for Core<E> {
 }
 
 impl<E: End> Core<E> {
-    /// No session, towards this peer. Takes no memory.
-    pub fn new(alloc: Global, mine: Addr, peer: Addr, policy: Policy, node: NodeFacts) -> Core<E>
+    /// No session, towards this peer, which is of this type. Takes no memory.
+    pub fn new(
+        alloc: Global,
+        mine: Addr,
+        peer: Addr,
+        policy: Policy,
+        node: NodeFacts,
+        peer_type: PeerType,
+    ) -> Core<E>
         requires { node.number < MOST_PLACES }
-        ensures value { result ≡ at_start (record { mine = mine; peer = peer; policy = policy; node = node }) }
+        ensures value { result ≡ at_start (record { mine = mine; peer = peer; policy = policy; node = node }) peer_type }
         ensures agrees { Agrees result (start result.facts) }
     {
         let session = Session {
@@ -102,7 +109,7 @@ impl<E: End> Core<E> {
             life: 0,
             resumed: 0,
             feed: None,
-            granted: None,
+            granted: PeerGrants::none(peer_type),
         };
         Core {
             alloc,
@@ -145,11 +152,11 @@ impl<E: End> Core<E> {
         self.live.last
     }
 
-    /// How many bytes the throttle has granted for the MESSAGE that isn't finished.
+    /// How many bytes the throttle of the dispatch has granted for the MESSAGE that isn't finished.
     pub fn granted(&self) -> u64
-        ensures { result ≡ held self.now.live.granted }
+        ensures { result ≡ held self.now.live.granted dispatch }
     {
-        match &self.live.granted {
+        match &self.live.granted.grants.dispatch {
             Some(grant) => grant.n(),
             None => 0,
         }
@@ -205,12 +212,12 @@ impl<E: End> Core<E> {
     }
 
     /// Gives back what is held, and gives the feed as it is.
-    pub fn end(self, throttle: &Throttle, pass: &mut TakePass) -> Option<Feed<E>>
-        requires pass { pass.old.place ≡ throttle.now.place }
-        requires owned { IsOwned throttle.now.place self.live.granted }
+    pub fn end(self, throttles: &Throttles, passes: &mut TakePasses) -> Option<Feed<E>>
+        requires passes { ArePassesOf throttles.now passes.old }
+        requires owned { AreHeld (places throttles.now) self.live.granted }
         ensures feed { result ≡ self.live.feed }
-        ensures place { pass.new.place ≡ pass.old.place }
-        ensures word { IsAlone throttle.now.place → pass.new.word ≡ pass.old.word - held self.live.granted }
+        ensures passes { ArePassesOf throttles.now passes.new }
+        ensures word { Return (held self.live.granted) throttles.now passes.old passes.new }
     {
         let Core {
             alloc: _,
@@ -223,6 +230,6 @@ impl<E: End> Core<E> {
             dials: _,
             top: _,
         } = self;
-        live.end(throttle, pass)
+        live.end(throttles, passes)
     }
 }

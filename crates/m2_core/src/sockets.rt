@@ -8,8 +8,8 @@ ghost use Rattle.m2_journal.specs.Items as item;
 ghost use Rattle.m2_journal.specs.Lawful.{dial_connect};
 ghost use Rattle.m2_session.specs.declared.event.Event.TheVariants as event;
 ghost use Rattle.m2_session.specs.Steps.{step_of};
-ghost use Rattle.m2_shared.specs.Place.{IsAlone};
-ghost use Rattle.m2_core.specs.LiveNow.{IsOwned, OnFeedNow, held, is_waiting};
+ghost use Rattle.m2_shared.specs.Gates.{AreHeld, ArePassesOf, Return, held, places};
+ghost use Rattle.m2_core.specs.LiveNow.{OnFeedNow, is_waiting};
 ghost use Rattle.m2_core.specs.Effects.{IsAftermath};
 ghost use Rattle.m2_core.specs.LiveCalls.{after_fault};
 ghost use Rattle.m2_core.specs.Agrees.{LeadsOn};
@@ -23,7 +23,7 @@ use crate::{Aftermath, write_on};
 use m2_fabric::End;
 use m2_feed::{Feed, FeedWrite};
 use m2_session::{Event, step};
-use m2_shared::{TakePass, Throttle};
+use m2_shared::{TakePasses, Throttles};
 
 impl<E: End> Core<E> {
     /// A socket that was opened to the peer is the feed: the entry Opened. A dial is due, and the connect
@@ -52,18 +52,18 @@ impl<E: End> Core<E> {
     /// The feed is closed for a fault: the entry Closed. Its cause is the caller's: that the end itself has
     /// failed or ended, or that the bytes on it are broken.
     #[tactic(auto, using(crate::proofs::Sound::faulted_to, crate::proofs::Faulting::faulted_to))]
-    pub fn fault(&mut self, throttle: &Throttle, pass: &mut TakePass) -> Aftermath<E>
+    pub fn fault(&mut self, throttles: &Throttles, passes: &mut TakePasses) -> Aftermath<E>
         requires fed { is_some self.old.live.feed ≡ true }
-        requires pass { pass.old.place ≡ throttle.now.place }
-        requires owned { IsOwned throttle.now.place self.old.live.granted }
+        requires passes { ArePassesOf throttles.now passes.old }
+        requires owned { AreHeld (places throttles.now) self.old.live.granted }
         ensures value { self.new ≡ record self.old { live = after_fault self.old.live } }
         ensures leads { OnFeedNow self.old.live.feed (λ v. (broken : Bool) → LeadsOn (item.closed v.end.id broken) self.old self.new) }
         ensures aftermath { IsAftermath (step_of self.old.live.session (event.Faulted (is_waiting self.old.live))).effects self.old.live.feed (option_map E.seen result.closed) result.discarded result.remote_reset }
-        ensures place { pass.new.place ≡ pass.old.place }
-        ensures word { IsAlone throttle.now.place → pass.new.word ≡ pass.old.word - held self.old.live.granted }
+        ensures passes { ArePassesOf throttles.now passes.new }
+        ensures word { Return (held self.old.live.granted) throttles.now passes.old passes.new }
     {
         let waits = self.live.waits();
-        self.live.tell(Event::Faulted { waits }, throttle, pass)
+        self.live.tell(Event::Faulted { waits }, throttles, passes)
     }
 
     /// Writes to the feed's end once what is composed there: where bytes are put, the entry Wrote.

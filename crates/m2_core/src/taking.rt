@@ -3,8 +3,7 @@
 ghost use Rattle.std.specs.Prelude.{◌≡◌, ◌-◌, ◌<◌, ◌^◌, true, false, option_map, IfSome, IsTrue};
 ghost use Rattle.m2_session.specs.Steps as table;
 ghost use Rattle.m2_session.specs.Steps.{HasFollower};
-ghost use Rattle.m2_shared.specs.Place.{IsAlone};
-ghost use Rattle.m2_core.specs.LiveNow.{IsOwned, held};
+ghost use Rattle.m2_shared.specs.Gates.{AreHeld, ArePassesOf, Return, held, places};
 ghost use Rattle.m2_core.specs.Effects.{IsAftermath, effects_of};
 ghost use Rattle.m2_core.specs.LiveCalls.{resumed_by_ask, tells_if, with_taken};
 
@@ -13,29 +12,29 @@ use crate::live::Live;
 use m2_fabric::End;
 use m2_feed::Feed;
 use m2_session::{AskFacts, Event};
-use m2_shared::{TakePass, Throttle};
+use m2_shared::{TakePasses, Throttles};
 
 impl<E: End> Live<E> {
     /// Tells the session what there is to tell, and does what it owes then.
     pub fn tell_if(
         &mut self,
         told: Option<Event>,
-        throttle: &Throttle,
-        pass: &mut TakePass,
+        throttles: &Throttles,
+        passes: &mut TakePasses,
     ) -> Aftermath<E>
         requires lawful { IfSome told (λ e. IsTrue (table.is_lawful self.old.session e)) }
         requires connect { self.old.session.connect < 2 ^ 64 - 1 }
         requires follower { IfSome told HasFollower }
-        requires pass { pass.old.place ≡ throttle.now.place }
-        requires owned { IsOwned throttle.now.place self.old.granted }
+        requires passes { ArePassesOf throttles.now passes.old }
+        requires owned { AreHeld (places throttles.now) self.old.granted }
         ensures live { self.new ≡ tells_if told self.old }
         ensures aftermath { IsAftermath (effects_of told self.old.session) self.old.feed (option_map E.seen result.closed) result.discarded result.remote_reset }
-        ensures place { pass.new.place ≡ pass.old.place }
-        ensures word { IsAlone throttle.now.place → (effects_of told self.old.session).close ≡ true → pass.new.word ≡ pass.old.word - held self.old.granted }
-        ensures kept { (effects_of told self.old.session).close ≡ false → pass.new ≡ pass.old }
+        ensures passes { ArePassesOf throttles.now passes.new }
+        ensures word { (effects_of told self.old.session).close ≡ true → Return (held self.old.granted) throttles.now passes.old passes.new }
+        ensures kept { (effects_of told self.old.session).close ≡ false → passes.new ≡ passes.old }
     {
         match told {
-            Some(event) => self.tell(event, throttle, pass),
+            Some(event) => self.tell(event, throttles, passes),
             None => Aftermath {
                 closed: None,
                 discarded: false,
@@ -50,20 +49,20 @@ impl<E: End> Live<E> {
         told: Option<Event>,
         feed: Feed<E>,
         resumed: u64,
-        throttle: &Throttle,
-        pass: &mut TakePass,
+        throttles: &Throttles,
+        passes: &mut TakePasses,
     ) -> Aftermath<E>
         requires lawful { IfSome told (λ e. IsTrue (table.is_lawful self.old.session e)) }
         requires connect { self.old.session.connect < 2 ^ 64 - 1 }
         requires follower { IfSome told HasFollower }
-        requires pass { pass.old.place ≡ throttle.now.place }
-        requires owned { IsOwned throttle.now.place self.old.granted }
+        requires passes { ArePassesOf throttles.now passes.old }
+        requires owned { AreHeld (places throttles.now) self.old.granted }
         ensures live { self.new ≡ with_taken told feed resumed self.old }
         ensures aftermath { IsAftermath (effects_of told self.old.session) self.old.feed (option_map E.seen result.closed) result.discarded result.remote_reset }
-        ensures place { pass.new.place ≡ pass.old.place }
-        ensures word { IsAlone throttle.now.place → (effects_of told self.old.session).close ≡ true → pass.new.word ≡ pass.old.word - held self.old.granted }
+        ensures passes { ArePassesOf throttles.now passes.new }
+        ensures word { (effects_of told self.old.session).close ≡ true → Return (held self.old.granted) throttles.now passes.old passes.new }
     {
-        let aftermath = self.tell_if(told, throttle, pass);
+        let aftermath = self.tell_if(told, throttles, passes);
         self.feed = Some(feed);
         self.resumed = resumed;
         aftermath

@@ -1,10 +1,10 @@
 -- Letters and lists of them: their priority, whom they come from, what is granted for them, and what a dispatcher
 -- hears of them. This project's own.
-use Rattle.std.specs.Prelude.{◌≡◌, ℕ, ◌==◌, Bool, not, ◌&&◌, Option, Some, None, List, [], ◌∷◌, All, filter, sum_by}
+use Rattle.std.specs.Prelude.{ℕ, ◌==◌, Bool, not, ◌&&◌, Option, Some, None, List, [], ◌∷◌, All, filter, sum_by}
 use Rattle.m2_message.specs.Message.{content_of}
 use Rattle.m2_policy.specs.declared.path.Key.{Key}
 use Rattle.m2_dispatch.specs.Heard.{Heard, is_key, message}
-use Rattle.m2_shared.specs.Place.{Place}
+use Rattle.m2_shared.specs.Gates.{AreHeld, Gate, Places, held}
 use Rattle.m2_dispatch.specs.declared.letter.Letter.{Letter}
 
 abbrev pub letter_priority : Letter → ℕ
@@ -32,20 +32,21 @@ is_of_key peer key l = is_of_peer peer l && is_key l.key key
 abbrev pub letters_of_key : ℕ → Key → List Letter → List Letter
 letters_of_key peer key ls = filter (is_of_key peer key) ls
 
-abbrev pub granted_for : Letter → ℕ
-granted_for l = l.grant.n
+-- how much is granted for it at a gate
+abbrev pub granted_for : Gate → Letter → ℕ
+granted_for gate l = held l.grants gate
 
--- how many bytes are granted for all of them together
-abbrev pub granted : List Letter → ℕ
-granted ls = sum_by granted_for ls
+-- how much is granted for all of them together
+abbrev pub granted : List Letter → Gate → ℕ
+granted ls gate = sum_by (granted_for gate) ls
 
--- its grant was made from the throttle whose word lies there
-abbrev pub IsOwnedLetter : Place → Letter → Type 0
-IsOwnedLetter place l = l.grant.place ≡ place
+-- its grants were made from the throttles whose words lie there
+abbrev pub IsOwnedLetter : Places → Letter → Type 0
+IsOwnedLetter places l = AreHeld places l.grants
 
 -- all their grants were
-abbrev pub AreOwned : Place → List Letter → Type 0
-AreOwned place ls = All (IsOwnedLetter place) ls
+abbrev pub AreOwned : Places → List Letter → Type 0
+AreOwned places ls = All (IsOwnedLetter places) ls
 
 abbrev pub first_of : List Letter → Option Letter
 first_of [] = None

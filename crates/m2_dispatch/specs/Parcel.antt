@@ -4,18 +4,18 @@ use Rattle.std.specs.Prelude.{List, [], ◌∷◌, map}
 use Rattle.std.specs.List.{AllByRecursion, flat_map}
 use Rattle.m2_queues.specs.ByRank.{put_behind}
 use Rattle.m2_dispatch.specs.Heard.{Heard, reset}
-use Rattle.m2_shared.specs.Place.{Place}
+use Rattle.m2_shared.specs.Gates.{Places}
 use Rattle.m2_dispatch.specs.declared.letter.Letter as letter
 use Rattle.m2_dispatch.specs.declared.parcel.Parcel.{Parcel}
 use Rattle.m2_dispatch.specs.declared.parcel.Parcel.TheVariants.{Discard, RemoteReset}
 use Rattle.m2_dispatch.specs.declared.parcel.Parcel.TheVariants as parcel
 use Rattle.m2_dispatch.specs.Letters.{IsOwnedLetter, heard_in, letter_priority, of_peer, others}
 
--- what it holds was granted by the throttle whose word lies there
-abbrev pub IsOwned : Place → Parcel → Type 0
-IsOwned place (parcel.Letter l) = IsOwnedLetter place l
-IsOwned place (Discard peer) = Unit {0}
-IsOwned place (RemoteReset peer) = Unit {0}
+-- what it holds was granted by the throttles whose words lie there
+abbrev pub IsOwned : Places → Parcel → Type 0
+IsOwned places (parcel.Letter l) = IsOwnedLetter places l
+IsOwned places (Discard peer) = Unit {0}
+IsOwned places (RemoteReset peer) = Unit {0}
 
 -- what waits after it: a letter is the last of its priority, and a discard leaves what comes from others
 abbrev pub after_put : Parcel → List letter.Letter → List letter.Letter
@@ -37,9 +37,9 @@ heard_at_put (RemoteReset peer) = reset peer ∷ []
 
 -- ---- parcels that are handed on to another dispatcher
 
--- all that they hold was granted by the throttle whose word lies there
-abbrev pub AllOwned : Place → List Parcel → Type 0
-AllOwned place parcels = AllByRecursion (IsOwned place) parcels
+-- all that they hold was granted by the throttles whose words lie there
+abbrev pub AllOwned : Places → List Parcel → Type 0
+AllOwned places parcels = AllByRecursion (IsOwned places) parcels
 
 -- letters, as parcels
 abbrev pub letters_on : List letter.Letter → List Parcel

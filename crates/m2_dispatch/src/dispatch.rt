@@ -1,8 +1,8 @@
 //! The queue before a dispatcher.
 
-ghost use Rattle.std.specs.Prelude.{◌≡◌, ◌-◌, ◌==◌, [], ◌∷◌, ◌++◌, length, map, OnOk, OnErr, IfErr};
+ghost use Rattle.std.specs.Prelude.{◌≡◌, ◌==◌, [], ◌∷◌, ◌++◌, length, map, OnOk, OnErr, IfErr};
 ghost use Rattle.m2_queues.specs.ByRank.{IsFalling};
-ghost use Rattle.m2_shared.specs.Place.{IsAlone, Place};
+ghost use Rattle.m2_shared.specs.Gates.{ArePassesOf, Places, Return, places};
 ghost use Rattle.m2_dispatch.specs.Letters.{AreOwned, granted, heard_in, letter_priority};
 ghost use Rattle.m2_dispatch.specs.Parcel.{AllOwned, IsOwned, after_put, heard_at_put, letters_on, thrown_away};
 ghost use Rattle.m2_dispatch.specs.Turn.{IsTurn, dispatched};
@@ -14,7 +14,7 @@ use crate::thrown;
 use crate::turn::DispatchTurn;
 use crate::waiting::{self, Waiting};
 use m2_bytes::NoMemory;
-use m2_shared::{TakePass, Throttle};
+use m2_shared::{TakePasses, Throttles};
 use std::alloc::Global;
 use std::collections::VecDeque;
 use std::marker::Model;
@@ -25,8 +25,8 @@ use std::marker::Model;
 ///
 /// In: [`put`](Dispatch::put). Out: [`turn`](Dispatch::turn), or [`hand_on`](Dispatch::hand_on), where another
 /// dispatcher is to be called with the letter. Looks: [`inner`](Dispatch::inner), [`is_empty`](Dispatch::is_empty). The
-/// end: [`finish`](Dispatch::finish). Each call that takes a throttle and a pass has the condition that the pass and the
-/// grants of all letters were made from this throttle, and leaves it so.
+/// end: [`finish`](Dispatch::finish). Each call that takes throttles and passes has the condition that the passes and
+/// the grants of all letters were made from these throttles, and leaves it so.
 pub struct Dispatch<D> {
     waiting: Waiting,
     inner: D,
@@ -71,19 +71,19 @@ impl<D> Dispatch<D> {
     }
 
     /// Gives back the grants of the letters that wait, throws them away, and gives the dispatcher.
-    pub fn finish(self, throttle: &Throttle, pass: &mut TakePass) -> D
-        requires pass { pass.old.place ≡ throttle.now.place }
-        requires letters { AreOwned throttle.now.place self.waiting }
+    pub fn finish(self, throttles: &Throttles, passes: &mut TakePasses) -> D
+        requires passes { ArePassesOf throttles.now passes.old }
+        requires letters { AreOwned (places throttles.now) self.waiting }
         ensures inner { result ≡ self.inner }
-        ensures pass { pass.new.place ≡ pass.old.place }
-        ensures word { IsAlone throttle.now.place → pass.new.word ≡ pass.old.word - granted self.waiting }
+        ensures passes { ArePassesOf throttles.now passes.new }
+        ensures word { Return (granted self.waiting) throttles.now passes.old passes.new }
     {
         let Dispatch {
             mut waiting,
             inner,
             alloc: _,
         } = self;
-        thrown::give_all(&mut waiting, throttle, pass);
+        thrown::give_all(&mut waiting, throttles, passes);
         waiting.destroy_empty();
         inner
     }
@@ -96,22 +96,21 @@ impl<D: Dispatcher> Dispatch<D> {
     pub fn put(
         &mut self,
         parcel: Parcel,
-        throttle: &Throttle,
-        pass: &mut TakePass,
+        throttles: &Throttles,
+        passes: &mut TakePasses,
     ) -> Result<(), Parcel>
-        requires pass { pass.old.place ≡ throttle.now.place }
-        requires letters { AreOwned throttle.now.place self.old.waiting }
-        requires parcel { IsOwned throttle.now.place parcel }
+        requires passes { ArePassesOf throttles.now passes.old }
+        requires letters { AreOwned (places throttles.now) self.old.waiting }
+        requires parcel { IsOwned (places throttles.now) parcel }
         ensures waiting { OnOk result (self.new.waiting ≡ after_put parcel self.old.waiting) }
         ensures heard { OnOk result (D.heard self.new.inner ≡ D.heard self.old.inner ++ heard_at_put parcel) }
-        ensures word { IsAlone throttle.now.place
-            → OnOk result (pass.new.word ≡ pass.old.word - granted (thrown_away parcel self.old.waiting)) }
+        ensures word { OnOk result (Return (granted (thrown_away parcel self.old.waiting)) throttles.now passes.old passes.new) }
         ensures back { IfErr result (λ back. back ≡ parcel) }
         ensures err_waiting { OnErr result (self.new.waiting ≡ self.old.waiting) }
         ensures err_heard { OnErr result (D.heard self.new.inner ≡ D.heard self.old.inner) }
-        ensures err_pass { OnErr result (pass.new ≡ pass.old) }
-        ensures pass { pass.new.place ≡ pass.old.place }
-        ensures letters { AreOwned throttle.now.place self.new.waiting }
+        ensures err_passes { OnErr result (passes.new ≡ passes.old) }
+        ensures passes { ArePassesOf throttles.now passes.new }
+        ensures letters { AreOwned (places throttles.now) self.new.waiting }
     {
         match parcel {
             Parcel::Letter(letter) => match waiting::add(&mut self.waiting, letter) {
@@ -120,7 +119,7 @@ impl<D: Dispatcher> Dispatch<D> {
             },
             Parcel::Discard { peer } => {
                 let alloc = self.alloc;
-                match thrown::discard(alloc, &mut self.waiting, peer, throttle, pass) {
+                match thrown::discard(alloc, &mut self.waiting, peer, throttles, passes) {
                     Ok(()) => Ok(()),
                     Err(_) => Err(Parcel::Discard { peer }),
                 }
@@ -133,18 +132,17 @@ impl<D: Dispatcher> Dispatch<D> {
     }
 
     /// Dispatches the message of the first letter that waits, the oldest of the greatest priority, and gives
-    /// its grant back. `Nothing` comes exactly where no letter waits. After `NoMemory` all is as before.
-    pub fn turn(&mut self, throttle: &Throttle, pass: &mut TakePass) -> DispatchTurn
-        requires pass { pass.old.place ≡ throttle.now.place }
-        requires letters { AreOwned throttle.now.place self.old.waiting }
+    /// its grants back. `Nothing` comes exactly where no letter waits. After `NoMemory` all is as before.
+    pub fn turn(&mut self, throttles: &Throttles, passes: &mut TakePasses) -> DispatchTurn
+        requires passes { ArePassesOf throttles.now passes.old }
+        requires letters { AreOwned (places throttles.now) self.old.waiting }
         ensures waiting { IsTurn result self.old.waiting self.new.waiting }
         ensures greatest { IsFalling letter_priority self.old.waiting }
         ensures heard { D.heard self.new.inner
             ≡ D.heard self.old.inner ++ map heard_in (dispatched result self.old.waiting) }
-        ensures word { IsAlone throttle.now.place
-            → pass.new.word ≡ pass.old.word - granted (dispatched result self.old.waiting) }
-        ensures pass { pass.new.place ≡ pass.old.place }
-        ensures letters { AreOwned throttle.now.place self.new.waiting }
+        ensures word { Return (granted (dispatched result self.old.waiting)) throttles.now passes.old passes.new }
+        ensures passes { ArePassesOf throttles.now passes.new }
+        ensures letters { AreOwned (places throttles.now) self.new.waiting }
     {
         if self.waiting.is_empty() {
             return DispatchTurn::Nothing;
@@ -161,11 +159,11 @@ impl<D: Dispatcher> Dispatch<D> {
             number,
             life,
             message,
-            grant,
+            grants,
         } = letter;
         match self.inner.message(peer, key, number, life, message) {
             Ok(()) => {
-                throttle.give(pass, grant);
+                grants.back(throttles, passes);
                 DispatchTurn::One
             }
             Err(message) => {
@@ -175,7 +173,7 @@ impl<D: Dispatcher> Dispatch<D> {
                     number,
                     life,
                     message,
-                    grant,
+                    grants,
                 };
                 waiting::put_back(&mut self.waiting, letter);
                 DispatchTurn::NoMemory
@@ -183,7 +181,7 @@ impl<D: Dispatcher> Dispatch<D> {
         }
     }
     /// Calls the dispatcher with the message of the first letter that waits, as [`turn`](Dispatch::turn) does, and puts
-    /// the letter last among these parcels, grant and all, for another dispatcher. `Nothing` comes exactly where no letter
+    /// the letter last among these parcels, grants and all, for another dispatcher. `Nothing` comes exactly where no letter
     /// waits. After `NoMemory` all is as before.
     pub fn hand_on(&mut self, into: &mut VecDeque<Parcel>) -> DispatchTurn
         ensures waiting { IsTurn result self.old.waiting self.new.waiting }
@@ -191,7 +189,7 @@ impl<D: Dispatcher> Dispatch<D> {
         ensures heard { D.heard self.new.inner
             ≡ D.heard self.old.inner ++ map heard_in (dispatched result self.old.waiting) }
         ensures into { into.new.items ≡ into.old.items ++ letters_on (dispatched result self.old.waiting) }
-        ensures letters { (place : Place) → AreOwned place self.old.waiting → AreOwned place self.new.waiting × AllOwned place (letters_on (dispatched result self.old.waiting)) }
+        ensures letters { (places : Places) → AreOwned places self.old.waiting → AreOwned places self.new.waiting × AllOwned places (letters_on (dispatched result self.old.waiting)) }
     {
         if self.waiting.is_empty() {
             return DispatchTurn::Nothing;

@@ -2,7 +2,7 @@
 
 use m2_message::Message;
 use m2_policy::Key;
-use m2_shared::Grant;
+use m2_shared::PeerGrants;
 
 /// A message that was accepted, with what was granted for it. It can't be dropped, since a grant is to
 /// be given back.
@@ -17,6 +17,6 @@ pub struct Letter {
     /// beginning, 0 where none is kept.
     pub life: u64,
     pub message: Message,
-    /// What a throttle granted for its bytes.
-    pub grant: Grant,
+    /// What was granted for it, by the throttles for peers of its sender's type and by that of the dispatch.
+    pub grants: PeerGrants,
 }

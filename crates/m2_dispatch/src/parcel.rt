@@ -1,5 +1,6 @@
 //! What a side of a session hands to a dispatch.
 
+ghost use Rattle.m2_shared.specs.Gates.{places};
 ghost use Rattle.m2_dispatch.specs.Parcel.{IsOwned};
 
 use crate::letter::Letter;
@@ -16,9 +17,9 @@ pub enum Parcel {
     RemoteReset { peer: u32 },
 }
 
-/// A parcel belongs to the throttle that granted for its letter; one without a letter belongs to each.
+/// A parcel belongs to the throttles that granted for its letter; one without a letter belongs to each.
 impl Item for Parcel {
     type Owner = Ids;
 
-    ghost belongs = { λ owner parcel. IsOwned owner.place parcel };
+    ghost belongs = { λ owner parcel. IsOwned (places owner.of) parcel };
 }

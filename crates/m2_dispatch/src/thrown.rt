@@ -1,23 +1,23 @@
 //! The letters that are thrown away.
 
-ghost use Rattle.std.specs.Prelude.{◌≡◌, ◌-◌, ◌≤◌, [], length, OnOk, OnErr};
-ghost use Rattle.m2_shared.specs.Place.{IsAlone};
-ghost use Rattle.m2_dispatch.specs.Letters.{AreOwned, granted, of_peer, others};
+ghost use Rattle.std.specs.Prelude.{◌≡◌, ◌≤◌, [], length, OnOk, OnErr};
+ghost use Rattle.m2_shared.specs.Gates.{ArePassesOf, Return, held, places};
+ghost use Rattle.m2_dispatch.specs.Letters.{AreOwned, IsOwnedLetter, granted, of_peer, others};
 ghost use Rattle.m2_dispatch.specs.Waiting.{IsOrdered, letters_in};
 
 use crate::letter::Letter;
 use crate::waiting::{self, Waiting};
 use m2_bytes::NoMemory;
-use m2_shared::{TakePass, Throttle};
+use m2_shared::{TakePasses, Throttles};
 use std::alloc::Global;
 use std::mem;
 
-/// Throws a letter away and gives its grant back.
-fn give_back(letter: Letter, throttle: &Throttle, pass: &mut TakePass)
-    requires pass { pass.old.place ≡ throttle.now.place }
-    requires letter { letter.grant.place ≡ throttle.now.place }
-    ensures pass { pass.new.place ≡ pass.old.place }
-    ensures word { IsAlone throttle.now.place → pass.new.word ≡ pass.old.word - letter.grant.n }
+/// Throws a letter away and gives its grants back.
+fn give_back(letter: Letter, throttles: &Throttles, passes: &mut TakePasses)
+    requires passes { ArePassesOf throttles.now passes.old }
+    requires letter { IsOwnedLetter (places throttles.now) letter }
+    ensures passes { ArePassesOf throttles.now passes.new }
+    ensures word { Return (held letter.grants) throttles.now passes.old passes.new }
 {
     let Letter {
         peer: _,
@@ -25,42 +25,47 @@ fn give_back(letter: Letter, throttle: &Throttle, pass: &mut TakePass)
         number: _,
         life: _,
         message: _,
-        grant,
+        grants,
     } = letter;
-    throttle.give(pass, grant);
+    grants.back(throttles, passes);
 }
 
 /// Throws all letters away and gives their grants back.
-pub(crate) fn give_all(waiting: &mut Waiting, throttle: &Throttle, pass: &mut TakePass)
+pub(crate) fn give_all(waiting: &mut Waiting, throttles: &Throttles, passes: &mut TakePasses)
     requires ordered { IsOrdered waiting.old.items }
-    requires pass { pass.old.place ≡ throttle.now.place }
-    requires letters { AreOwned throttle.now.place (letters_in waiting.old.items) }
+    requires passes { ArePassesOf throttles.now passes.old }
+    requires letters { AreOwned (places throttles.now) (letters_in waiting.old.items) }
     ensures letters { waiting.new.items ≡ [] }
-    ensures pass { pass.new.place ≡ pass.old.place }
-    ensures word { IsAlone throttle.now.place → pass.new.word ≡ pass.old.word - granted (letters_in waiting.old.items) }
+    ensures passes { ArePassesOf throttles.now passes.new }
+    ensures word { Return (granted (letters_in waiting.old.items)) throttles.now passes.old passes.new }
 {
     'letters: while let Some(letter) = waiting::take(waiting) {
-        give_back(letter, throttle, pass);
+        give_back(letter, throttles, passes);
     }
 }
 
 /// Moves the letters of other peers over, in their order, and throws those of the peer away.
-fn sift(from: &mut Waiting, into: &mut Waiting, peer: u32, throttle: &Throttle, pass: &mut TakePass)
+fn sift(
+    from: &mut Waiting,
+    into: &mut Waiting,
+    peer: u32,
+    throttles: &Throttles,
+    passes: &mut TakePasses,
+)
     requires ordered { IsOrdered from.old.items }
     requires nothing { into.old.items ≡ [] }
     requires room { length (letters_in from.old.items) ≤ into.old.room }
-    requires pass { pass.old.place ≡ throttle.now.place }
-    requires letters { AreOwned throttle.now.place (letters_in from.old.items) }
+    requires passes { ArePassesOf throttles.now passes.old }
+    requires letters { AreOwned (places throttles.now) (letters_in from.old.items) }
     ensures from { from.new.items ≡ [] }
     ensures into { letters_in into.new.items ≡ others peer (letters_in from.old.items) }
     ensures ordered { IsOrdered into.new.items }
-    ensures pass { pass.new.place ≡ pass.old.place }
-    ensures word { IsAlone throttle.now.place
-        → pass.new.word ≡ pass.old.word - granted (of_peer peer (letters_in from.old.items)) }
+    ensures passes { ArePassesOf throttles.now passes.new }
+    ensures word { Return (granted (of_peer peer (letters_in from.old.items))) throttles.now passes.old passes.new }
 {
     'letters: while let Some(letter) = waiting::take(from) {
         if letter.peer == peer {
-            give_back(letter, throttle, pass);
+            give_back(letter, throttles, passes);
         } else {
             waiting::add_reserved(into, letter);
         }
@@ -73,19 +78,18 @@ pub(crate) fn discard(
     alloc: Global,
     waiting: &mut Waiting,
     peer: u32,
-    throttle: &Throttle,
-    pass: &mut TakePass,
+    throttles: &Throttles,
+    passes: &mut TakePasses,
 ) -> Result<(), NoMemory>
     requires ordered { IsOrdered waiting.old.items }
-    requires pass { pass.old.place ≡ throttle.now.place }
-    requires letters { AreOwned throttle.now.place (letters_in waiting.old.items) }
+    requires passes { ArePassesOf throttles.now passes.old }
+    requires letters { AreOwned (places throttles.now) (letters_in waiting.old.items) }
     ensures letters { OnOk result (letters_in waiting.new.items ≡ others peer (letters_in waiting.old.items)) }
     ensures ordered { IsOrdered waiting.new.items }
-    ensures pass { pass.new.place ≡ pass.old.place }
-    ensures word { IsAlone throttle.now.place
-        → OnOk result (pass.new.word ≡ pass.old.word - granted (of_peer peer (letters_in waiting.old.items))) }
+    ensures passes { ArePassesOf throttles.now passes.new }
+    ensures word { OnOk result (Return (granted (of_peer peer (letters_in waiting.old.items))) throttles.now passes.old passes.new) }
     ensures err_waiting { OnErr result (waiting.new ≡ waiting.old) }
-    ensures err_pass { OnErr result (pass.new ≡ pass.old) }
+    ensures err_passes { OnErr result (passes.new ≡ passes.old) }
 {
     let count = match u32::try_from(waiting.len()) {
         Ok(count) => count,
@@ -97,7 +101,7 @@ pub(crate) fn discard(
         return Err(NoMemory);
     }
     mem::swap(waiting, &mut rest);
-    sift(&mut rest, waiting, peer, throttle, pass);
+    sift(&mut rest, waiting, peer, throttles, passes);
     rest.destroy_empty();
     Ok(())
 }

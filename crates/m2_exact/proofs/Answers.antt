@@ -1,5 +1,6 @@
 -- Halves that were asked the same, beside records that are alike, come to the same, but for want of memory.
 use Rattle.std.proofs.Common.{◌≡◌, ℕ, ◌-◌, ◌++◌, List, Bool, true, false, Option, None, Some, inl, inr, refl, sym, subst, ◌∙◌, ap}
+use Rattle.std.proofs.Math.Path.{fun_ext}
 use Rattle.std.specs.Prelude.{◌⊎◌, IfSome, IsSome}
 use Rattle.std.proofs.lemmas.List.{same_from_push}
 use Rattle.std.specs.Option.{option_map}
@@ -7,7 +8,8 @@ use Rattle.m2_fabric.proofs.m2_lemmas.Options.{some_same}
 use Rattle.m2_dispatch.specs.m2_shared.Numbers.{SeenNumberPass}
 use Rattle.m2_dispatch.specs.m2_shared.declared.draw.Draw.{Draw}
 use Rattle.m2_dispatch.specs.m2_shared.declared.draw.Draw.TheVariants as draw
-use Rattle.m2_dispatch.specs.m2_shared.Throttle.{SeenGrant, SeenTakePass}
+use Rattle.m2_dispatch.specs.m2_shared.Gates.{Gate, words}
+use Rattle.m2_dispatch.specs.m2_shared.declared.peer_grants.PeerGrants.{PeerGrants}
 use Rattle.m2_fabric.specs.Kinds.{IsInMemory}
 use Rattle.m2_trail.specs.Arrivals.{LooseNow, closed_of}
 use Rattle.m2_trail.specs.Asks.{check_of, facts_of_ask}
@@ -39,7 +41,7 @@ use Rattle.m2_exact.specs.Answers.{LikeHalvesAreAnsweredAlike, PlainJudging, Sta
 use Rattle.m2_exact.specs.Halves as half
 use Rattle.m2_exact.specs.Judgements as judging
 use Rattle.m2_exact.specs.Judgements.{BackInMemory, bare_judged}
-use Rattle.m2_exact.specs.Records.{bare_numbers, bare_take, plain}
+use Rattle.m2_exact.specs.Records.{bare_numbers, plain}
 use Rattle.m2_exact.specs.RecordTurns.{HasAlone, IsFit}
 
 -- ---- a reply
@@ -94,15 +96,15 @@ replies_one one other a b some like m k h g =
 
 -- ---- a judgement
 
-given_bare : {E : Type 0} (j : Judged E) (g : Option SeenGrant) → given_back j g ≡ given_back (bare_judged j) g
-given_bare (judged.Taken answer) g = refl
-given_bare (judged.Back answer arrival) g = refl
-given_bare (judged.NoMemory arrival) g = refl
+given_bare : {E : Type 0} (j : Judged E) (g : PeerGrants) (gate : Gate) → given_back j g gate ≡ given_back (bare_judged j) g gate
+given_bare (judged.Taken answer) g gate = refl
+given_bare (judged.Back answer arrival) g gate = refl
+given_bare (judged.NoMemory arrival) g gate = refl
 
-judging_of : (old new : Judging) → plain old.side ≡ plain new.side → old.bytes.word ≡ new.bytes.word → bare_numbers old.numbers ≡ bare_numbers new.numbers → plain_judging old ≡ plain_judging new
+judging_of : (old new : Judging) → plain old.side ≡ plain new.side → words old.bytes ≡ words new.bytes → bare_numbers old.numbers ≡ bare_numbers new.numbers → plain_judging old ≡ plain_judging new
 judging_of old new side word numbers =
     ap (λ (r : RecordNow). record (plain_judging old) { side = r }) side
-    ∙ ap (λ (n : ℕ). record { side = plain new.side; bytes = record (bare_take old.bytes) { word = n }; numbers = bare_numbers old.numbers }) word
+    ∙ ap (λ (n : Gate → ℕ). record { side = plain new.side; bytes = n; numbers = bare_numbers old.numbers }) word
     ∙ ap (λ (n : SeenNumberPass). record (plain_judging new) { numbers = n }) numbers
 
 asked_too : (o p : Option Ask) → IsSome o → option_map bare_ask o ≡ option_map bare_ask p → IsSome p
@@ -120,14 +122,14 @@ module _ {E : Type 0} (m : Means) (alone : HasAlone m) (a b : IncomingNow) (some
       let both = judgements.alike.judges j k a b h.number m.now old.side last.side new.side behind.side like (ap (λ (x : PlainJudging). x.side) same)
       (record { asked = some; judges = h.judges; memory = p })
       (record { asked = asked_too a.ask b.ask some (ap (λ (x : IncomingNow). x.ask) like); judges = subst (λ (n : ℕ). IfSome b.ask (λ ask. JudgesAs k (verdict_on (facts_of_ask ask) n last.side.core.live) b m.now last.side behind.side)) (sym number) g.judges; memory = q }) in
-      let words : new.bytes.word ≡ behind.bytes.word =
-      h.gives alone.throttle
-      ∙ ap (λ (n : ℕ). old.bytes.word - n) (given_bare j old.side.core.live.granted)
-      ∙ ap (λ (x : Judged E). old.bytes.word - given_back x old.side.core.live.granted) both.0
-      ∙ ap (λ (x : PlainJudging). x.bytes.word - given_back (bare_judged k) x.side.core.live.granted) same
-      ∙ sym (ap (λ (n : ℕ). last.bytes.word - n) (given_bare k last.side.core.live.granted))
-      ∙ sym (g.gives alone.throttle) in
-      (both.0, judging_of new behind both.1 words drawn.1)
+      let word : words new.bytes ≡ words behind.bytes =
+      fun_ext (λ gate. h.gives gate (alone.throttles gate)
+      ∙ ap (λ (n : ℕ). words old.bytes gate - n) (given_bare j old.side.core.live.granted gate)
+      ∙ ap (λ (x : Judged E). words old.bytes gate - given_back x old.side.core.live.granted gate) both.0
+      ∙ ap (λ (x : PlainJudging). x.bytes gate - given_back (bare_judged k) x.side.core.live.granted gate) same
+      ∙ sym (ap (λ (n : ℕ). words last.bytes gate - n) (given_bare k last.side.core.live.granted gate))
+      ∙ sym (g.gives gate (alone.throttles gate))) in
+      (both.0, judging_of new behind both.1 word drawn.1)
 
 -- ---- what was heard
 
@@ -195,7 +197,7 @@ module _ {E : Type 0} (m : Means) (alone : HasAlone m) (one other : HalfAnswered
         ap bare_answered h.is ∙ ap (λ (x : IncomingNow). undrawn_so {E = E} x) like ∙ sym (ap bare_answered g.is),
         judging_of new behind
             (ap plain h.side ∙ ap (λ (x : PlainJudging). x.side) same ∙ sym (ap plain g.side))
-            (ap (λ (x : SeenTakePass). x.word) h.bytes ∙ ap (λ (x : PlainJudging). x.bytes.word) same ∙ sym (ap (λ (x : SeenTakePass). x.word) g.bytes))
+            (ap words h.bytes ∙ ap (λ (x : PlainJudging). x.bytes) same ∙ sym (ap words g.bytes))
             drawn.1,
       )
   hears_one (inl h) (inr (inl g)) =

@@ -6,7 +6,7 @@ use Rattle.m2_script.specs.m2_center.Center.{CenterNow}
 use Rattle.m2_script.specs.m2_center.CenterTurn.{Accepts, EmptiesMail, TakesTurn, TurnsHalves, TurnsRecords, accepted_so, accepting_in, all_amid_in, answered_so, callers_of, delivered_so, mailing_in, stepped_so}
 use Rattle.m2_script.specs.m2_center.Reaching.{ends_or_none, waiting_at}
 use Rattle.m2_dispatch.specs.Heard.{Heard}
-use Rattle.m2_dispatch.specs.m2_shared.Place.{Place}
+use Rattle.m2_dispatch.specs.m2_shared.Gates.{Places, places}
 use Rattle.m2_fabric.specs.End.{SeenEnd}
 use Rattle.m2_fabric.specs.Kinds.{IsInMemory, WaitInMemory}
 use Rattle.m2_fabric.specs.Port.{SeenPort}
@@ -90,13 +90,13 @@ abbrev mailed_in : PlainCenter → PlainMailing
 mailed_in c = record { out = c.out; waiting = c.waiting; queued = c.queued; bytes = c.bytes }
 
 -- mail that is emptied holds what was held
-held_still : {D : Type 0} (heard : D → List Heard) (place : Place) (r : Mailed) (old new : Mailing D) → r ≢ mailed.NoMemory → Mails heard place r old new → new.out.held ≡ old.out.held
-held_still {D} heard place r old new m h = by r m h
+held_still : {D : Type 0} (heard : D → List Heard) (at : Places) (r : Mailed) (old new : Mailing D) → r ≢ mailed.NoMemory → Mails heard at r old new → new.out.held ≡ old.out.held
+held_still {D} heard at r old new m h = by r m h
   where
-    some : MailsSome heard place old new → new.out.held ≡ old.out.held
+    some : MailsSome heard at old new → new.out.held ≡ old.out.held
     some h = ap (λ o. o.held) h.puts.out
 
-    by : (r : Mailed) → r ≢ mailed.NoMemory → Mails heard place r old new → new.out.held ≡ old.out.held
+    by : (r : Mailed) → r ≢ mailed.NoMemory → Mails heard at r old new → new.out.held ≡ old.out.held
     by mailed.Moved m h = some h.0
     by mailed.Dry m h = some h.0
     by mailed.NoMemory m h = absurd (m refl)
@@ -138,7 +138,7 @@ module _ (E : Type 0) {D : Type 0} (heard : D → List Heard) (m : Means) where
   mails_one : (r s : Mailed) (old last new behind : CenterNow D) → HasAlone m → plain_center heard old ≡ plain_center heard last → r ≢ mailed.NoMemory → s ≢ mailed.NoMemory →
       EmptiesMail heard m r old new → EmptiesMail heard m s last behind → plain_center heard new ≡ plain_center heard behind
   mails_one r s old last new behind alone like k l h g =
-      let both = (mails.alike heard).mails m.throttle.place r s (mailing_in old) (mailing_in last) (mailing_in new) (mailing_in behind) alone.throttle (ap mailed_in like) k l h.mails g.mails in
+      let both = (mails.alike heard).mails (places m.throttles) r s (mailing_in old) (mailing_in last) (mailing_in new) (mailing_in behind) alone.throttles (ap mailed_in like) k l h.mails g.mails in
       ap (plain_center heard) h.only
       ∙ ap (λ (x : PlainMailing). with_mailed x (plain_center heard old)) both.1
       ∙ ap (with_mailed (plain_mailing heard (mailing_in behind))) like
@@ -213,7 +213,7 @@ module _ (E : Type 0) {D : Type 0} (heard : D → List Heard) (m : Means) where
   }
 
   none_held : (old new : CenterNow D) (p : Parts old new) → new.out.held ≡ None → p.stepped.out.held ≡ None
-  none_held old new p none = sym (held_still heard m.throttle.place p.last (mailing_in p.stepped) (mailing_in new) p.found p.delivers.mails) ∙ none
+  none_held old new p none = sym (held_still heard (places m.throttles) p.last (mailing_in p.stepped) (mailing_in new) p.found p.delivers.mails) ∙ none
 
   turns : (old last new behind : CenterNow D) → HasAlone m → IsFitCenter old → plain_center heard old ≡ plain_center heard last → TakesTurn E heard m (Ok tt) old new →
       TakesTurn E heard m (Ok tt) last behind → new.out.held ≡ None → behind.out.held ≡ None → plain_center heard new ≡ plain_center heard behind

@@ -4,6 +4,7 @@ use Rattle.std.specs.List.{AllByRecursion, flat_map}
 use Rattle.std.specs.Option.{option_map}
 use Rattle.std.proofs.lemmas.List.{length-map}
 use Rattle.m2_dispatch.specs.Heard.{Heard}
+use Rattle.m2_dispatch.specs.m2_shared.Gates.{places}
 use Rattle.m2_fabric.proofs.m2_lemmas.Lists.{all_at, cons_same}
 use Rattle.m2_fabric.specs.End.{SeenEnd}
 use Rattle.m2_fabric.specs.InStep.{Network, SeenFabric}
@@ -141,7 +142,7 @@ module _ {D : Type 0} (E : Type 0) (heard : D → List Heard) where
   fit_told old new f h whole = record {
     whole = whole;
     asked = all_like untold_record IsAskedBehind asked_told old.center.records new.center.records (sym (ap (λ (n : NodeNow D). n.center.records) h)) f.asked;
-    throttle = ap (λ (n : NodeNow D). n.throttle.place) h ∙ f.throttle;
+    throttles = λ gate. ap (λ (n : NodeNow D). places n.throttles gate) h ∙ f.throttles gate;
     counter = ap (λ (n : NodeNow D). n.numbers.place) h ∙ f.counter;
   }
 

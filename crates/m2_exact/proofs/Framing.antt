@@ -46,8 +46,8 @@ framed_of (next.Acked number) = framed.Acked number
 framed_of (next.Accepted a) = framed.Accepted a.number
 framed_of next.Granted = framed.Granted
 framed_of (next.Resets full) = framed.Obeyed full
-framed_of (next.Full held) = framed.Full held
-framed_of (next.Again seen now) = framed.Again seen now
+framed_of (next.Full stage held) = framed.Full stage held
+framed_of (next.Again stage seen now) = framed.Again stage seen now
 framed_of (next.Fault cause) = framed.Faulted cause
 framed_of next.NoMemory = framed.NoMemory
 framed_of answer = framed.Passed
@@ -100,24 +100,10 @@ heeded t (framed.Faulted cause) now r new m (h, only) = record {
   memory = λ e. cc e;
   leaves = ap plain only ∙ calls.breaking now r;
 }
-heeded t (framed.Full out) now r new m (h, only) = record {
-  answer = next.Full out;
-  core = new.core;
-  front = h;
-  is = refl;
-  some = λ e. cc e;
-  memory = λ e. cc e;
-  leaves = stays r new (ap (λ (x : RecordNow). x.core) only) (ap plain only);
-}
-heeded t (framed.Again seen at) now r new m (h, only) = record {
-  answer = next.Again seen at;
-  core = new.core;
-  front = h;
-  is = refl;
-  some = λ e. cc e;
-  memory = λ e. cc e;
-  leaves = stays r new (ap (λ (x : RecordNow). x.core) only) (ap plain only);
-}
+heeded t (framed.Full stage out) now r new m (h, only) =
+    record { answer = next.Full stage out; core = new.core; front = h; is = refl; some = λ e. cc e; memory = λ e. cc e; leaves = ap plain only }
+heeded t (framed.Again stage seen at) now r new m (h, only) =
+    record { answer = next.Again stage seen at; core = new.core; front = h; is = refl; some = λ e. cc e; memory = λ e. cc e; leaves = ap plain only }
 heeded t framed.NoMemory now r new m h = absurd (m refl)
 
 module _ (t u : Throttled) (p : LikeThrottles t u) (now : ℕ) (r s new behind : RecordNow) (like : plain r ≡ plain s) where
@@ -256,8 +242,8 @@ goes t framed.Granted now r new m h = (refl, (λ e. cc e), (new, h, refl))
 goes t (framed.Acked n) now r new m h = (refl, (λ e. cc e), (new, h, refl))
 goes t (framed.Accepted n) now r new m h = (refl, (λ e. cc e), (new, h, refl))
 goes t (framed.Faulted c) now r new m h = (refl, (λ e. cc e), (new, h, refl))
-goes t (framed.Full out) now r new m h = (refl, (λ e. cc e), (new, h, refl))
-goes t (framed.Again seen at) now r new m h = (refl, (λ e. cc e), (new, h, refl))
+goes t (framed.Full stage out) now r new m h = (refl, (λ e. cc e), (new, h, refl))
+goes t (framed.Again stage seen at) now r new m h = (refl, (λ e. cc e), (new, h, refl))
 
 obeys_if : (x y : Option Bool) (r s new behind : RecordNow) → x ≡ y → plain r ≡ plain s → ObeysIf x r new → ObeysIf y s behind → plain new ≡ plain behind
 obeys_if (Some full) (Some mark) r s new behind same like h g = obeys r s new behind like full h (subst (λ (b : Bool). Obeys b s behind) (some_same mark full (sym same)) g)

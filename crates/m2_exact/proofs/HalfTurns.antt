@@ -4,6 +4,7 @@ use Rattle.std.specs.Prelude.{◌≢◌, ◌⊎◌, IfSome, IsSome}
 use Rattle.std.specs.List.{AllByRecursion}
 use Rattle.std.specs.Option.{option_map}
 use Rattle.m2_control.proofs.Raised.{main_same}
+use Rattle.m2_dispatch.specs.m2_shared.Gates.{words}
 use Rattle.m2_fabric.proofs.m2_lemmas.Lists.{all_at, cons_same}
 use Rattle.m2_fabric.proofs.m2_lemmas.Options.{some_same}
 use Rattle.m2_fabric.specs.Kinds.{IsInMemory}
@@ -38,7 +39,7 @@ use Rattle.m2_exact.specs.Answers as answering
 use Rattle.m2_exact.specs.Answers.{PlainJudging, StaysInMemory, bare_answered, plain_judging}
 use Rattle.m2_exact.specs.HalfTurns.{LikeHalvesTurnAlike, PlainHomes, bare_turned, lacks, plain_homes}
 use Rattle.m2_exact.specs.Halves as half
-use Rattle.m2_exact.specs.Records.{bare_numbers, bare_take, plain}
+use Rattle.m2_exact.specs.Records.{bare_numbers, plain}
 use Rattle.m2_exact.specs.RecordTurns.{HasAlone, IsFit}
 
 -- ---- one record of many
@@ -274,7 +275,7 @@ module _ (E : Type 0) (m : Means) where
         let rows : map plain old.records ≡ map plain last.records = ap (λ (x : PlainHomes). x.records) same in
         let side : plain h.before ≡ plain g.before = map_get plain old.records last.records n h.before g.before rows h.side g.side in
         let begins : plain_judging (judging_in h.before old) ≡ plain_judging (judging_in g.before last) =
-        ap (λ (r : RecordNow). record { side = r; bytes = bare_take old.bytes; numbers = bare_numbers old.numbers }) side
+        ap (λ (r : RecordNow). record { side = r; bytes = words old.bytes; numbers = bare_numbers old.numbers }) side
         ∙ ap (λ (x : PlainHomes). record { side = plain g.before; bytes = x.bytes; numbers = x.numbers }) same in
         let both = answers.alike.answers m one other a b (judging_in h.before old) (judging_in g.before last) (judging_in h.behind new) (judging_in g.behind behind)
         alone some like begins k l h.answers g.answers in

@@ -1,16 +1,19 @@
 -- What is held for a feed, behind each call of a core.
-use Rattle.std.proofs.Common.{◌≡◌, ℕ, if◌then◌else◌, List, Bool, true, false, Option, None, Some, refl, sym, subst, ◌∙◌, ap}
-use Rattle.std.specs.Prelude.{IfSome}
-use Rattle.m2_dispatch.specs.m2_shared.Throttle.{SeenGrant}
+use Rattle.std.proofs.Common.{◌≡◌, ◌++◌, ℕ, if◌then◌else◌, List, take, Bool, true, false, Option, None, Some, refl, sym, subst, ◌∙◌, ap, inl, inr}
+use Rattle.std.specs.Option.{is_some}
+use Rattle.m2_dispatch.specs.m2_shared.Gates.{nothing_held}
+use Rattle.m2_dispatch.specs.m2_shared.declared.peer_grants.PeerGrants.{PeerGrants}
+use Rattle.m2_dispatch.specs.m2_shared.declared.peer_type.PeerType.{PeerType}
 use Rattle.m2_fabric.specs.declared.end.EndRead.{EndRead}
 use Rattle.m2_fabric.specs.declared.end.EndRead.TheVariants as read
+use Rattle.m2_script.proofs.m2_center.m2_turn.m2_core.HeardBytes.{size_stays}
 use Rattle.m2_script.specs.m2_center.m2_core.CoreNow.{CoreNow}
 use Rattle.m2_script.specs.m2_center.m2_core.Effects.{closes, discards, has_effects, requeues, sets_back, tells, where_true}
 use Rattle.m2_script.specs.m2_center.m2_core.Front as front
 use Rattle.m2_script.specs.m2_center.m2_core.Front.{FrontHeard, before_front, front_in, front_of, heard_by, hearer_of, resumption_at}
 use Rattle.m2_script.specs.m2_center.m2_core.Hearing as hearing
 use Rattle.m2_script.specs.m2_center.m2_core.LiveCalls.{tells_if}
-use Rattle.m2_script.specs.m2_center.m2_core.LiveNow.{LiveNow, is_granted_in, is_granted_on, is_ready}
+use Rattle.m2_script.specs.m2_center.m2_core.LiveNow.{HoldsNothing, LiveNow, asked_in, asked_on, is_ready}
 use Rattle.m2_script.specs.m2_center.m2_core.OnFeed.{GreetsFeed, ReadsFeed, WritesFeed}
 use Rattle.m2_script.specs.m2_center.m2_feed.Calls.{heard_of, with_grant}
 use Rattle.m2_script.specs.m2_center.m2_feed.FeedNow.{FeedNow, Reading, framing, shaking}
@@ -34,36 +37,26 @@ use Rattle.m2_exact.specs.Holding.{IsHeldRightly, MayHold}
 
 -- ---- words
 
-pub none_right : (f : SideFacts) (l : LiveNow) → l.granted ≡ None → IsHeldRightly f l
-none_right f l e = subst (λ (o : Option SeenGrant). IfSome o (λ g. MayHold f l)) (sym e) tt
+pub none_of : (g : PeerGrants) (peer : PeerType) → g ≡ nothing_held peer → HoldsNothing g
+none_of g peer e = subst HoldsNothing (sym e) refl
+
+pub none_right : (f : SideFacts) (l : LiveNow) → HoldsNothing l.granted → IsHeldRightly f l
+none_right f l e = inl e
 
 -- outside Ready nothing is held
-pub idle : (f : SideFacts) (l : LiveNow) → IsHeldRightly f l → is_ready l ≡ false → l.granted ≡ None
-idle f l h e = by l.granted h
-  where
-    by : (o : Option SeenGrant) → IfSome o (λ g. MayHold f l) → o ≡ None
-    by (Some g) m = absurd (cc (m.ready, e))
-    by None m = refl
+pub idle : (f : SideFacts) (l : LiveNow) → IsHeldRightly f l → is_ready l ≡ false → HoldsNothing l.granted
+idle f l (inl none) e = none
+idle f l (inr m) e = absurd (cc (m.ready, e))
 
--- nor where the decoder wasn't told
-pub untold : (f : SideFacts) (l : LiveNow) → IsHeldRightly f l → is_granted_on l.feed ≡ false → l.granted ≡ None
-untold f l h e = by l.granted h
-  where
-    by : (o : Option SeenGrant) → IfSome o (λ g. MayHold f l) → o ≡ None
-    by (Some g) m = absurd (cc (m.told, e))
-    by None m = refl
-
--- where the session is the same, the decoder was told as much, and the same is held
-pub kept : (f : SideFacts) (l k : LiveNow) → k.granted ≡ l.granted → k.session ≡ l.session → is_granted_on k.feed ≡ is_granted_on l.feed → IsHeldRightly f l → IsHeldRightly f k
-kept f l k g s t h = by l.granted g h
-  where
-    by : (o : Option SeenGrant) → k.granted ≡ o → IfSome o (λ g. MayHold f l) → IsHeldRightly f k
-    by (Some x) g m = subst (λ (o : Option SeenGrant). IfSome o (λ g. MayHold f k)) (sym g) (record {
-      ready = ap (λ (s : Session). phases.is s.phase phase.Ready) s ∙ m.ready;
-      told = t ∙ m.told;
-      session = subst (SessionIsSound f) (sym s) m.session;
-    })
-    by None g m = none_right f k g
+-- where the session is the same, a size is asked for as before, and the same is held
+pub kept : (f : SideFacts) (l k : LiveNow) → k.granted ≡ l.granted → k.session ≡ l.session → (is_some (asked_on l.feed) ≡ true → is_some (asked_on k.feed) ≡ true) → IsHeldRightly f l →
+    IsHeldRightly f k
+kept f l k g s asked (inl none) = inl (subst HoldsNothing (sym g) none)
+kept f l k g s asked (inr m) = inr (record {
+  ready = ap (λ (s : Session). phases.is s.phase phase.Ready) s ∙ m.ready;
+  asked = asked m.asked;
+  session = subst (SessionIsSound f) (sym s) m.session;
+})
 
 -- ---- a step of the session
 
@@ -86,66 +79,77 @@ told_granted e l = by (step_of l.session e).effects (record l { session = (step_
     end true = refl
     end false = refl
 
-pub closed : (e : Event) (l : LiveNow) → (step_of l.session e).effects.close ≡ true → (tells e l).granted ≡ None
+pub closed : (e : Event) (l : LiveNow) → (step_of l.session e).effects.close ≡ true → (tells e l).granted ≡ nothing_held l.granted.peer
 closed e l is = told_granted e l ∙ ap (λ (b : Bool). (where_true b closes l).granted) is
 
-pub none_still : (e : Event) (l : LiveNow) → l.granted ≡ None → (tells e l).granted ≡ None
+pub none_still : (e : Event) (l : LiveNow) → HoldsNothing l.granted → (tells e l).granted ≡ l.granted
 none_still e l none = told_granted e l ∙ by (step_of l.session e).effects.close
   where
-    by : (b : Bool) → (where_true b closes l).granted ≡ None
-    by true = refl
-    by false = none
+    by : (b : Bool) → (where_true b closes l).granted ≡ l.granted
+    by true = sym none
+    by false = refl
 
-pub none_told : (e : Option Event) (l : LiveNow) → l.granted ≡ None → (tells_if e l).granted ≡ None
+pub none_told : (e : Option Event) (l : LiveNow) → HoldsNothing l.granted → (tells_if e l).granted ≡ l.granted
 none_told (Some e) l none = none_still e l none
-none_told None l none = none
+none_told None l none = refl
 
-pub down_drops : (l : LiveNow) → (tells event.MarkedDown l).granted ≡ None
+pub down_drops : (l : LiveNow) → (tells event.MarkedDown l).granted ≡ nothing_held l.granted.peer
 down_drops l = closed event.MarkedDown l refl
 
--- ---- whether the decoder was told
+-- ---- what is asked for
 
-pub written : (a : FeedWrite) (x y : Option FeedNow) → WritesFeed a x y → is_granted_on y ≡ is_granted_on x
-written (put.Put n b) (Some v) (Some w) h = ap (λ (z : FeedNow). is_granted_in z.reading) h.2
-written put.NotYet (Some v) (Some w) h = ap (λ (z : FeedNow). is_granted_in z.reading) h.1
-written put.Failed (Some v) (Some w) h = ap (λ (z : FeedNow). is_granted_in z.reading) h.1
-written put.NoMemory (Some v) (Some w) h = ap (λ (z : FeedNow). is_granted_in z.reading) h
+pub written : (a : FeedWrite) (x y : Option FeedNow) → WritesFeed a x y → asked_on y ≡ asked_on x
+written (put.Put n b) (Some v) (Some w) h = ap (λ (z : FeedNow). asked_in z.reading) h.2
+written put.NotYet (Some v) (Some w) h = ap (λ (z : FeedNow). asked_in z.reading) h.1
+written put.Failed (Some v) (Some w) h = ap (λ (z : FeedNow). asked_in z.reading) h.1
+written put.NoMemory (Some v) (Some w) h = ap (λ (z : FeedNow). asked_in z.reading) h
 written a (Some v) None h = absurd h
 written a None y h = absurd h
 
-heard_told : (a : EndRead) (piece : List ℕ) (r : Reading) → is_granted_in (heard_of a piece r) ≡ is_granted_in r
-heard_told (read.Got n) piece (shaking s) = refl
-heard_told (read.Got n) piece (framing rest granted) = refl
-heard_told read.NotYet piece r = refl
-heard_told read.Ended piece r = refl
-heard_told read.Failed piece r = refl
-heard_told read.NoMemory piece r = refl
+-- more bytes leave a size that was told
+heard_asked : (a : EndRead) (piece : List ℕ) (r : Reading) → is_some (asked_in r) ≡ true → is_some (asked_in (heard_of a piece r)) ≡ true
+heard_asked (read.Got n) piece (shaking s) e = e
+heard_asked (read.Got n) piece (framing rest granted) e = by (size_of rest) refl e
+  where
+    by : (o : Option ℕ) → size_of rest ≡ o → is_some o ≡ true → is_some (size_of (rest ++ take n piece)) ≡ true
+    by (Some size) is e = ap is_some (size_stays rest (take n piece) size is ∙ is)
+    by None is e = absurd (cc e)
+heard_asked read.NotYet piece r e = e
+heard_asked read.Ended piece r e = e
+heard_asked read.Failed piece r e = e
+heard_asked read.NoMemory piece r e = e
 
-pub reads : (a : EndRead) (x y : Option FeedNow) → ReadsFeed a x y → is_granted_on y ≡ is_granted_on x
-reads (read.Got n) (Some v) (Some w) h = ap is_granted_in h.hears.heard ∙ heard_told (read.Got n) h.hears.piece v.reading
-reads read.NotYet (Some v) (Some w) h = ap is_granted_in h.hears.heard ∙ heard_told read.NotYet h.hears.piece v.reading
-reads read.Ended (Some v) (Some w) h = ap is_granted_in h.hears.heard ∙ heard_told read.Ended h.hears.piece v.reading
-reads read.Failed (Some v) (Some w) h = ap is_granted_in h.hears.heard ∙ heard_told read.Failed h.hears.piece v.reading
-reads read.NoMemory (Some v) (Some w) h = ap (λ (z : FeedNow). is_granted_in z.reading) h
-reads a (Some v) None h = absurd h
-reads a None y h = absurd h
+asked_so : (a : EndRead) (piece : List ℕ) (r now : Reading) → now ≡ heard_of a piece r → is_some (asked_in r) ≡ true → is_some (asked_in now) ≡ true
+asked_so a piece r now is e = ap (λ (z : Reading). is_some (asked_in z)) is ∙ heard_asked a piece r e
 
-pub greets : (a : HalfStep) (x y : Option FeedNow) → GreetsFeed a x y → is_granted_on y ≡ is_granted_on x
-greets half.Authed (Some v) (Some w) g = ap (λ (z : FeedNow). is_granted_in z.reading) g.leaves ∙ sym (ap is_granted_in g.stood)
-greets half.NotYet (Some v) (Some w) g = ap (λ (z : FeedNow). is_granted_in z.reading) g.leaves ∙ sym (ap is_granted_in g.stood)
-greets half.Wrote (Some v) (Some w) g = ap (λ (z : FeedNow). is_granted_in z.reading) g.leaves ∙ sym (ap is_granted_in g.stood)
-greets half.NoMemory (Some v) (Some w) g = ap (λ (z : FeedNow). is_granted_in z.reading) g.leaves ∙ sym (ap is_granted_in g.stood)
-greets (half.Fault e) (Some v) (Some w) g = ap (λ (z : FeedNow). is_granted_in z.reading) g.leaves ∙ sym (ap is_granted_in g.stood)
-greets a (Some v) None g = absurd g
-greets a None y g = absurd g
+pub reads : (a : EndRead) (x y : Option FeedNow) → ReadsFeed a x y → is_some (asked_on x) ≡ true → is_some (asked_on y) ≡ true
+reads (read.Got n) (Some v) (Some w) h e = asked_so (read.Got n) h.hears.piece v.reading w.reading h.hears.heard e
+reads read.NotYet (Some v) (Some w) h e = asked_so read.NotYet h.hears.piece v.reading w.reading h.hears.heard e
+reads read.Ended (Some v) (Some w) h e = asked_so read.Ended h.hears.piece v.reading w.reading h.hears.heard e
+reads read.Failed (Some v) (Some w) h e = asked_so read.Failed h.hears.piece v.reading w.reading h.hears.heard e
+reads read.NoMemory (Some v) (Some w) h e = ap (λ (z : FeedNow). is_some (asked_in z.reading)) h ∙ e
+reads a (Some v) None h e = absurd h
+reads a None y h e = absurd h
+
+pub greets : (a : HalfStep) (x y : Option FeedNow) → GreetsFeed a x y → is_some (asked_on x) ≡ true → is_some (asked_on y) ≡ true
+greets a (Some v) y g e = absurd (none_asked a v y g e)
+  where
+    none_asked : (a : HalfStep) (v : FeedNow) (y : Option FeedNow) → GreetsFeed a (Some v) y → is_some (asked_in v.reading) ≡ true → ⊥
+    none_asked half.Authed v (Some w) g e = let none = ap (λ (z : Reading). is_some (asked_in z)) g.stood in cc (none, e)
+    none_asked half.NotYet v (Some w) g e = let none = ap (λ (z : Reading). is_some (asked_in z)) g.stood in cc (none, e)
+    none_asked half.Wrote v (Some w) g e = let none = ap (λ (z : Reading). is_some (asked_in z)) g.stood in cc (none, e)
+    none_asked half.NoMemory v (Some w) g e = let none = ap (λ (z : Reading). is_some (asked_in z)) g.stood in cc (none, e)
+    none_asked (half.Fault f) v (Some w) g e = let none = ap (λ (z : Reading). is_some (asked_in z)) g.stood in cc (none, e)
+    none_asked a v None g e = absurd g
+greets a None y g e = absurd g
 
 -- ---- a size that is asked for
 
--- in Ready, of a decoder that wasn't told
+-- in Ready, by what was read
 pub record AsksSize (c : CoreNow) (r : Reading) : Type 0 where
   pub ready : is_ready c.live ≡ true
-  pub untold : is_granted_in r ≡ false
-  pub telling : is_granted_in (with_grant r) ≡ true
+  pub asked : is_some (asked_in r) ≡ true
+  pub telling : asked_in (with_grant r) ≡ asked_in r
 
 pub asks_size : (c : CoreNow) (r : Reading) (n : ℕ) → heard_by c r ≡ front.asks n → AsksSize c r
 asks_size c r n e = by (resumption_at c) e
@@ -162,14 +166,14 @@ asks_size c r n e = by (resumption_at c) e
     none h (bad f) e = cc e
     none h (text item len) e = cc e
 
-    owed : (rest : List ℕ) (o : Option ℕ) (f : Front) → front_in (hearer_of c) o f ≡ front.asks n → is_ready c.live ≡ true
-    owed rest (Some m) f e = size (phases.is c.live.session.phase phase.Ready) m _ (λ z. cc z) e
+    owed : (rest : List ℕ) (o : Option ℕ) (f : Front) → front_in (hearer_of c) o f ≡ front.asks n → (is_ready c.live ≡ true) × (is_some o ≡ true)
+    owed rest (Some m) f e = (size (phases.is c.live.session.phase phase.Ready) m _ (λ z. cc z) e, refl)
     owed rest None f e = absurd (none (hearer_of c) f e)
 
     on : (r : Reading) → front_of (hearer_of c) r ≡ front.asks n → AsksSize c r
     on (shaking s) e = absurd (rests_not e)
     on (framing rest true) e = absurd (none (hearer_of c) _ e)
-    on (framing rest false) e = record { ready = owed rest (size_of rest) _ e; untold = refl; telling = refl }
+    on (framing rest false) e = let is = owed rest (size_of rest) _ e in record { ready = is.0; asked = is.1; telling = refl }
 
     by : (o : Option _) → before_front o (front_of (hearer_of c) r) ≡ front.asks n → AsksSize c r
     by (Some says) e = absurd (cc e)

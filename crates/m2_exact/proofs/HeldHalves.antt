@@ -1,7 +1,7 @@
 -- What is held by a center's records, behind the turns of its halves.
 use Rattle.std.proofs.Common.{◌≡◌, ℕ, ◌+◌, List, [], ◌∷◌, map, Option, None, Some, inl, inr, sym, subst, ap, arith}
 use Rattle.std.specs.List.{AllByRecursion}
-use Rattle.m2_dispatch.specs.m2_shared.Place.{IsAlone}
+use Rattle.m2_dispatch.specs.m2_shared.Gates.{Gate, places, words}
 use Rattle.m2_fabric.proofs.m2_lemmas.Lists.{all_at}
 use Rattle.m2_fabric.specs.m2_addr.declared.addr.Addr.{Addr}
 use Rattle.m2_trail.specs.Incoming.{IncomingNow}
@@ -19,22 +19,23 @@ use Rattle.m2_exact.proofs.HeldJudged as judging
 use Rattle.m2_exact.proofs.HeldSums as sums
 use Rattle.m2_exact.proofs.HeldSums.{Follows}
 use Rattle.m2_exact.proofs.Lists.{all_set}
-use Rattle.m2_exact.specs.Holding.{HoldsRightly, held_in_record, held_in_records}
+use Rattle.m2_exact.specs.Holding.{AreAlone, HoldsRightly, held_in_record, held_in_records}
 
--- the word goes along with what the records hold, each rightly
+-- each word goes along with what the records hold at its gate, each rightly
 pub record Goes (old new : Homes) : Type 0 where
-  pub word : Follows old.bytes.word new.bytes.word (held_in_records old.records) (held_in_records new.records)
+  pub word : (gate : Gate) → Follows (words old.bytes gate) (words new.bytes gate) (held_in_records gate old.records) (held_in_records gate new.records)
   pub right : AllByRecursion HoldsRightly new.records
 
 abbrev Holds : Homes → Type 0
 Holds h = AllByRecursion HoldsRightly h.records
 
 stays : (old new : Homes) → Holds old → new ≡ old → Goes old new
-stays old new r e = subst (Goes old) (sym e) (record { word = λ rest h. h; right = r })
+stays old new r e = subst (Goes old) (sym e) (record { word = λ gate rest h. h; right = r })
 
 along : (old mid new : Homes) → Goes old mid → Goes mid new → Goes old new
 along old mid new h g = record {
-  word = sums.along old.bytes.word mid.bytes.word new.bytes.word (held_in_records old.records) (held_in_records mid.records) (held_in_records new.records) h.word g.word;
+  word = λ gate. sums.along (words old.bytes gate) (words mid.bytes gate) (words new.bytes gate) (held_in_records gate old.records) (held_in_records gate mid.records) (held_in_records gate new.records)
+      (h.word gate) (g.word gate);
   right = g.right;
 }
 
@@ -45,18 +46,18 @@ outcome_of {A} {B} {C} f = C
 abbrev Moved : Type 0 → Type 0
 Moved E = outcome_of (moved_by {E = E})
 
-module _ (E : Type 0) (m : Means) (alone : IsAlone m.throttle.place) where
+module _ (E : Type 0) (m : Means) (alone : AreAlone (places m.throttles)) where
   -- ---- an ask
 
   answers_at : (n : ℕ) (answer : HalfAnswered E) (a : IncomingNow) (old new : Homes) → judging.HasAsk a → Holds old → AnswersAt n answer a m old new → Goes old new
   answers_at n answer a old new has r h =
       let one = judging.answered m alone answer a (judging_in h.before old) (judging_in h.behind new) has (all_at HoldsRightly old.records n h.before h.side r) h.answers in
       record {
-        word = λ rest e.
-            (let set = sums.sum_set held_in_record old.records n h.before h.behind h.side in
-            let is = ap held_in_records h.records in
-            let was = sums.sum_has held_in_record old.records n h.before h.side in
-            let word = one.word (was.0 + rest) (let amount = was.1 in omega (arith, amount, e)) in
+        word = λ gate rest e.
+            (let set = sums.sum_set (held_in_record gate) old.records n h.before h.behind h.side in
+            let is = ap (held_in_records gate) h.records in
+            let was = sums.sum_has (held_in_record gate) old.records n h.before h.side in
+            let word = one.word gate (was.0 + rest) (let amount = was.1 in omega (arith, amount, e)) in
             let amount = was.1 in
             omega (arith, set, is, word, amount));
         right = subst (AllByRecursion HoldsRightly) (sym h.records) (all_set HoldsRightly old.records n h.behind r one.right);

@@ -2,8 +2,7 @@
 use Rattle.std.proofs.Common.{◌≡◌, ◌≢◌, ℕ, ◌||◌, ◌==◌, not, [], ◌∷◌, Bool, true, false, Option, None, Some, inl, inr, refl, sym, subst, ◌∙◌, ap, arith}
 use Rattle.std.specs.Prelude.{IfSome, IsSome, IsTrue}
 use Rattle.std.specs.List.{AllByRecursion}
-use Rattle.m2_dispatch.specs.m2_shared.Place.{IsAlone}
-use Rattle.m2_dispatch.specs.m2_shared.Throttle.{SeenGrant, SeenTakePass}
+use Rattle.m2_dispatch.specs.m2_shared.Gates.{Gate, held, nothing_held, places, words}
 use Rattle.m2_fabric.proofs.m2_lemmas.Booleans.{or_left, or_right}
 use Rattle.m2_fabric.proofs.m2_lemmas.Lists.{all_back}
 use Rattle.m2_fabric.proofs.m2_lemmas.Numbers.{not_zero_is_tested, test_turned}
@@ -18,8 +17,7 @@ use Rattle.m2_script.proofs.m2_center.m2_turn.m2_session.Answers.{answers_are_la
 use Rattle.m2_script.specs.m2_center.m2_core.Effects.{tells}
 use Rattle.m2_script.specs.m2_center.m2_core.Judging.{told_of, verdict_on}
 use Rattle.m2_script.specs.m2_center.m2_core.LiveCalls.{tells_if}
-use Rattle.m2_script.specs.m2_center.m2_core.LiveNow as live
-use Rattle.m2_script.specs.m2_center.m2_core.LiveNow.{LiveNow}
+use Rattle.m2_script.specs.m2_center.m2_core.LiveNow.{HoldsNothing, LiveNow}
 use Rattle.m2_script.specs.m2_center.m2_core.TakingOver.{IsTakenFeed}
 use Rattle.m2_script.specs.m2_center.m2_core.declared.verdict.Verdict.{Verdict}
 use Rattle.m2_script.specs.m2_center.m2_feed.FeedNow.{FeedNow}
@@ -60,10 +58,10 @@ use Rattle.m2_script.specs.m2_center.m2_turn.m2_handshake.declared.ident.IdentCh
 use Rattle.m2_script.specs.m2_center.m2_turn.m2_handshake.m2_control.Laws.{IsInBounds}
 use Rattle.m2_exact.proofs.HeldCores as cores
 use Rattle.m2_exact.proofs.HeldSteps as steps
-use Rattle.m2_exact.proofs.HeldSteps.{Less}
+use Rattle.m2_exact.proofs.HeldSteps.{Less, nothing}
 use Rattle.m2_exact.proofs.HeldSums as sums
 use Rattle.m2_exact.proofs.HeldSums.{Follows}
-use Rattle.m2_exact.specs.Holding.{HoldsRightly, IsHeldRightly, MayHold, held_in_record}
+use Rattle.m2_exact.specs.Holding.{AreAlone, HoldsRightly, IsHeldRightly, held_in_record}
 
 -- ---- what the session is told of an answer
 
@@ -163,63 +161,60 @@ ready_has_none_pending false f s a k written server sound ready other e =
 abbrev pub HasCookie : AskFacts → Type 0
 HasCookie a = a.ident ≡ false → a.client ≢ 0
 
-pending_holds_none : (f : SideFacts) (l : LiveNow) (a : AskFacts) (number : ℕ) → HasCookie a → IsHeldRightly f l → told_of f (verdict_on a number l) ≡ Some event.Pending → l.granted ≡ None
-pending_holds_none f l a number cookie r e = by l.granted r
-  where
-    by : (o : Option SeenGrant) → IfSome o (λ g. MayHold f l) → o ≡ None
-    by (Some g) m = absurd (ready_has_none_pending a.ident f l.session a (kept_of f a) l.out.queue.written (cookie_of f number) m.session m.ready cookie e)
-    by None m = refl
+pending_holds_none : (f : SideFacts) (l : LiveNow) (a : AskFacts) (number : ℕ) → HasCookie a → IsHeldRightly f l → told_of f (verdict_on a number l) ≡ Some event.Pending → HoldsNothing l.granted
+pending_holds_none f l a number cookie (inl none) e = none
+pending_holds_none f l a number cookie (inr m) e = absurd (ready_has_none_pending a.ident f l.session a (kept_of f a) l.out.queue.written (cookie_of f number) m.session m.ready cookie e)
 
 -- an answer that takes no socket leaves what is held
 record Quiet (f : SideFacts) (l k : LiveNow) : Type 0 where
   pub granted : k.granted ≡ l.granted
   pub right : IsHeldRightly f k
 
-quietly : (f : SideFacts) (l : LiveNow) (o : Option Event) → IsQuiet o → (o ≡ Some event.Pending → l.granted ≡ None) → IsHeldRightly f l → Quiet f l (tells_if o l)
+quietly : (f : SideFacts) (l : LiveNow) (o : Option Event) → IsQuiet o → (o ≡ Some event.Pending → HoldsNothing l.granted) → IsHeldRightly f l → Quiet f l (tells_if o l)
 quietly f l None q none r = record { granted = refl; right = r }
 quietly f l (Some event.Pending) q none r =
     let is = none refl in
     let still = cores.none_still event.Pending l is in
-    record { granted = still ∙ sym is; right = cores.none_right f (tells event.Pending l) still }
+    record { granted = still; right = cores.none_right f (tells event.Pending l) (subst HoldsNothing (sym still) is) }
 quietly f l (Some x) q none r = absurd q
 
 answers : (v : Verdict) (a : IncomingNow) (now : ℕ) (ask : AskFacts) (number : ℕ) (old new : RecordNow) → v ≡ verdict_on ask number old.core.live → HasCookie ask → HoldsRightly old → takes v.answer ≡ false →
-    new ≡ record (after_answer v a.end.id now old) { room = new.room } → Less 0 old new
+    new ≡ record (after_answer v a.end.id now old) { room = new.room } → Less nothing old new
 answers v a now ask number old new is cookie r none only =
     let o = told_of old.core.facts v in
     let quiet = quietly old.core.facts old.core.live o (refuses_by v.ask.ident (kept_of old.core.facts v.ask) v.answer (cookie_of old.core.facts v.number) none)
     (λ e. pending_holds_none old.core.facts old.core.live ask number cookie r (ap (told_of old.core.facts) (sym is) ∙ e)) r in
-    steps.by (Less 0 old) new _ only (record {
-      amount = steps.no_less old (after_answer v a.end.id now old) quiet.granted (sums.told_behind old.parcels old.place (effects_at v old).discard (effects_at v old).remote_reset);
+    steps.by (Less nothing old) new _ only (record {
+      amount = steps.no_less old (after_answer v a.end.id now old) quiet.granted (λ gate. sums.told_behind gate old.parcels old.place (effects_at v old).discard (effects_at v old).remote_reset);
       right = quiet.right;
     })
 
 takes_over : (v : Verdict) (h : TakenHalf) (now : ℕ) (ask : AskFacts) (number : ℕ) (old new : RecordNow) → v ≡ verdict_on ask number old.core.live → takes v.answer ≡ true → TakesOver v h now old new →
-    Less (live.held old.core.live.granted) old new
+    Less (held old.core.live.granted) old new
 takes_over v h now ask number old new is may (each, some) = by new.core.live.feed each some
   where
     closes : Closes (told_of old.core.facts v)
     closes = subst (λ (w : Verdict). Closes (told_of old.core.facts w)) (sym is)
         (taking_closes ask.ident old.core.live.session ask (kept_of old.core.facts ask) old.core.live.out.queue.written (cookie_of old.core.facts number) (ap (λ (w : Verdict). takes w.answer) (sym is) ∙ may))
 
-    none : (tells_if (told_of old.core.facts v) old.core.live).granted ≡ None
+    none : (tells_if (told_of old.core.facts v) old.core.live).granted ≡ nothing_held old.core.live.granted.peer
     none = ap (λ (o : Option Event). (tells_if o old.core.live).granted) closes.is ∙ cores.closed closes.told old.core.live (closes.closes old.core.live.session)
 
-    by : (x : Option FeedNow) → IfSome x (λ d. IsTakenFeed v h.end h.unread old.core d × (new ≡ record (after_taking_over v h d now old) { room = new.room })) → IsSome x → Less (live.held old.core.live.granted) old new
+    by : (x : Option FeedNow) → IfSome x (λ d. IsTakenFeed v h.end h.unread old.core d × (new ≡ record (after_taking_over v h d now old) { room = new.room })) → IsSome x → Less (held old.core.live.granted) old new
     by (Some d) (feed, only) some =
-        steps.drops old new (ap (λ (z : RecordNow). z.core.live.granted) only ∙ none)
-        (ap (λ (z : RecordNow). all_granted z.parcels) only ∙ sums.told_behind old.parcels old.place (effects_at v old).discard (effects_at v old).remote_reset)
+        steps.drops old new old.core.live.granted.peer (ap (λ (z : RecordNow). z.core.live.granted) only ∙ none)
+        (λ gate. ap (λ (z : RecordNow). all_granted z.parcels gate) only ∙ sums.told_behind gate old.parcels old.place (effects_at v old).discard (effects_at v old).remote_reset)
     by None each some = absurd (cc some)
 
-less_then : (n : ℕ) (old mid new : RecordNow) → Less n old mid → Less 0 mid new → Less n old new
-less_then n old mid new h g = record { amount = let one = h.amount in let other = g.amount in omega (arith, one, other); right = g.right }
+less_then : (n : Gate → ℕ) (old mid new : RecordNow) → Less n old mid → Less nothing mid new → Less n old new
+less_then n old mid new h g = record { amount = λ gate. (let one = h.amount gate in let other = g.amount gate in omega (arith, one, other)); right = g.right }
 
 judges : {E : Type 0} (j : Judged E) (a : IncomingNow) (now : ℕ) (ask : AskFacts) (number : ℕ) (old new : RecordNow) → HasCookie ask → HoldsRightly old → JudgesAs j (verdict_on ask number old.core.live) a now old new →
     Less (given_back j old.core.live.granted) old new
 judges (judged.Taken given) a now ask number old new cookie r (is, may, h) =
     let v = verdict_on ask number old.core.live in
     let over = takes_over v (half_of given a) now ask number old h.taken refl (sym (ap takes is) ∙ may) h.over in
-    less_then (live.held old.core.live.granted) old h.taken new over (steps.counts_resumption h.taken new over.right h.counts)
+    less_then (held old.core.live.granted) old h.taken new over (steps.counts_resumption h.taken new over.right h.counts)
 judges (judged.Back given arrival) a now ask number old new cookie r (is, may, back, only) =
     answers (verdict_on ask number old.core.live) a now ask number old new refl cookie r (sym (ap takes is) ∙ may) only
 judges (judged.NoMemory arrival) a now ask number old new cookie r (back, room) = steps.same_but_room old new r room
@@ -247,26 +242,31 @@ has_ask a h = record { ask = h.ask; in_hand = h.in_hand; cookie = by h.ask last 
 
 -- ---- a half that is answered
 
--- the word goes along with what the record holds, rightly
+-- each word goes along with what the record holds at its gate, rightly
 pub record Goes (old new : Judging) : Type 0 where
-  pub word : Follows old.bytes.word new.bytes.word (held_in_record old.side) (held_in_record new.side)
+  pub word : (gate : Gate) → Follows (words old.bytes gate) (words new.bytes gate) (held_in_record gate old.side) (held_in_record gate new.side)
   pub right : HoldsRightly new.side
 
 itself : (old new : Judging) → HoldsRightly old.side → new.side ≡ old.side → new.bytes ≡ old.bytes → Goes old new
 itself old new r side bytes = record {
-  word = sums.stays old.bytes.word new.bytes.word (held_in_record old.side) (held_in_record new.side) (ap (λ (p : SeenTakePass). p.word) bytes) (ap held_in_record side);
+  word = λ gate. sums.stays (words old.bytes gate) (words new.bytes gate) (held_in_record gate old.side) (held_in_record gate new.side)
+      (steps.same_words old.bytes new.bytes gate bytes) (ap (held_in_record gate) side);
   right = subst HoldsRightly (sym side) r;
 }
 
 stays : (old new : Judging) → HoldsRightly old.side → new ≡ old → Goes old new
 stays old new r e = itself old new r (ap (λ (j : Judging). j.side) e) (ap (λ (j : Judging). j.bytes) e)
 
-module _ (m : Means) (alone : IsAlone m.throttle.place) where
+module _ (m : Means) (alone : AreAlone (places m.throttles)) where
   judges_one : {E : Type 0} (j : Judged E) (a : IncomingNow) (old new : Judging) → HasAsk a → HoldsRightly old.side → Judges j a m old new → Goes old new
   judges_one j a old new has r h =
       let less = judges j a m.now (facts_of_ask has.ask) h.number old.side new.side has.cookie r
       (subst (λ (o : Option Ask). IfSome o (λ ask. JudgesAs j (verdict_on (facts_of_ask ask) h.number old.side.core.live) a m.now old.side new.side)) has.in_hand h.judges) in
-      record { word = sums.given (given_back j old.side.core.live.granted) old.bytes.word new.bytes.word (held_in_record old.side) (held_in_record new.side) (h.gives alone) less.amount; right = less.right }
+      record {
+        word = λ gate. sums.given (given_back j old.side.core.live.granted gate) (words old.bytes gate) (words new.bytes gate) (held_in_record gate old.side) (held_in_record gate new.side)
+            (h.gives gate (alone gate)) (less.amount gate);
+        right = less.right;
+      }
 
   owes_then : {E : Type 0} (result : HalfAnswered E) (a : IncomingNow) (old new : Judging) → HasAsk a → HoldsRightly old.side → OwesThen result a m old new → Goes old new
   owes_then {E} result a old new has r (arrival, (given, h), replies) = judges_one {E = E} (judged.Back given arrival) a old new has r h

@@ -4,7 +4,7 @@ use Rattle.std.specs.Prelude.{IfSome, IsSome, nat_le}
 use Rattle.std.specs.List.{AllByRecursion}
 use Rattle.m2_dispatch.specs.Heard.{Heard}
 use Rattle.m2_dispatch.specs.declared.letter.Letter.{Letter}
-use Rattle.m2_dispatch.specs.m2_shared.Place.{IsAlone}
+use Rattle.m2_dispatch.specs.m2_shared.Gates.{Gate, Return, places, words}
 use Rattle.m2_fabric.proofs.m2_lemmas.Lists.{all_back, all_front}
 use Rattle.m2_fabric.specs.End.{SeenEnd}
 use Rattle.m2_fabric.specs.declared.port.Connect.{Connect}
@@ -12,14 +12,14 @@ use Rattle.m2_fabric.specs.declared.port.Connect.TheVariants as connect
 use Rattle.m2_fabric.specs.m2_bytes.declared.memory.NoMemory as memory
 use Rattle.m2_script.proofs.m2_center.m2_turn.m2_record.DueSteps.{due-holds}
 use Rattle.m2_script.specs.m2_center.m2_core.CoreNow.{may_dial}
-use Rattle.m2_script.specs.m2_center.m2_core.LiveNow.{is_ready}
+use Rattle.m2_script.specs.m2_center.m2_core.LiveNow.{HoldsNothing, is_ready}
 use Rattle.m2_script.specs.m2_center.m2_feed.FeedNow.{FeedNow}
 use Rattle.m2_script.specs.m2_center.m2_feed.m2_session.Dials.{at_rest}
 use Rattle.m2_script.specs.m2_center.m2_feed.m2_session.Phases as phases
 use Rattle.m2_script.specs.m2_center.m2_feed.m2_session.declared.event.Event.TheVariants as event
 use Rattle.m2_script.specs.m2_center.m2_feed.m2_session.declared.session.Phase.{Phase}
 use Rattle.m2_script.specs.m2_center.m2_feed.m2_session.declared.session.Phase.TheVariants as phase
-use Rattle.m2_script.specs.m2_center.m2_record.Calls.{Connects, all_granted, with_opened}
+use Rattle.m2_script.specs.m2_center.m2_record.Calls.{Connects, with_opened}
 use Rattle.m2_script.specs.m2_center.m2_core.Calls.{IsOpening}
 use Rattle.m2_script.specs.m2_center.m2_record.Due.{due_step}
 use Rattle.m2_script.specs.m2_center.m2_record.RecordNow.{RecordNow}
@@ -35,12 +35,12 @@ use Rattle.m2_script.specs.m2_center.m2_turn.declared.record_turn.RecordTurn.The
 use Rattle.m2_script.specs.m2_center.m2_turn.declared.records_turn.RecordsTurn.TheVariants as turn
 use Rattle.m2_exact.proofs.HeldCores as cores
 use Rattle.m2_exact.proofs.HeldSteps as steps
-use Rattle.m2_exact.proofs.HeldSteps.{Less}
+use Rattle.m2_exact.proofs.HeldSteps.{Less, nothing}
 use Rattle.m2_exact.proofs.HeldSums as sums
 use Rattle.m2_exact.proofs.HeldSums.{Follows}
 use Rattle.m2_exact.proofs.HeldTurns as turns
 use Rattle.m2_exact.proofs.RecordsTurns.{done_memory}
-use Rattle.m2_exact.specs.Holding.{HoldsRightly, held_in_record, held_in_records}
+use Rattle.m2_exact.specs.Holding.{AreAlone, HoldsRightly, held_in_record, held_in_records}
 
 -- ---- a connect
 
@@ -65,31 +65,31 @@ dials_idle now r to h =
     rests phase.Standby a b h = refl
     rests phase.Wait a b h = refl
 
-connects : (e : SeenEnd) (mid new : RecordNow) → HoldsRightly mid → is_ready mid.core.live ≡ false → Connects e mid new → Less 0 mid new
+connects : (e : SeenEnd) (mid new : RecordNow) → HoldsRightly mid → is_ready mid.core.live ≡ false → Connects e mid new → Less nothing mid new
 connects e mid new r idle (each, some) = by_feed new.core.live.feed each some
   where
-    none : mid.core.live.granted ≡ None
+    none : HoldsNothing mid.core.live.granted
     none = cores.idle mid.core.facts mid.core.live r idle
 
-    by_feed : (x : Option FeedNow) → IfSome x (λ v. IsOpening mid.core.facts e v × (new ≡ record (with_opened v e.id mid) { room = new.room })) → IsSome x → Less 0 mid new
+    by_feed : (x : Option FeedNow) → IfSome x (λ v. IsOpening mid.core.facts e v × (new ≡ record (with_opened v e.id mid) { room = new.room })) → IsSome x → Less nothing mid new
     by_feed (Some v) (is, only) some =
-        let granted : new.core.live.granted ≡ None = ap (λ (z : RecordNow). z.core.live.granted) only ∙ cores.none_still event.Dialled mid.core.live none in
+        let granted : new.core.live.granted ≡ mid.core.live.granted = ap (λ (z : RecordNow). z.core.live.granted) only ∙ cores.none_still event.Dialled mid.core.live none in
         record {
-          amount = steps.no_less mid new (granted ∙ sym none) (ap (λ (z : RecordNow). all_granted z.parcels) only);
-          right = cores.none_right new.core.facts new.core.live granted;
+          amount = steps.no_less mid new granted (steps.grant_alike mid new (ap (λ (z : RecordNow). z.parcels) only));
+          right = cores.none_right new.core.facts new.core.live (subst HoldsNothing (sym granted) none);
         }
     by_feed None each some = absurd (cc some)
 
-takes : (made : Connect SeenEnd) (now : ℕ) (old new : RecordNow) → HoldsRightly old → is_ready old.core.live ≡ false → Takes made now old new → Less 0 old new
+takes : (made : Connect SeenEnd) (now : ℕ) (old new : RecordNow) → HoldsRightly old → is_ready old.core.live ≡ false → Takes made now old new → Less nothing old new
 takes (connect.Made e) now old new r idle (mid, room, h) =
     let first = steps.same_but_room old mid r room in
-    steps.then_less 0 old mid new first (connects e mid new first.right (ap (λ (z : RecordNow). is_ready z.core.live) room ∙ idle) h)
+    steps.then_less nothing old mid new first (connects e mid new first.right (ap (λ (z : RecordNow). is_ready z.core.live) room ∙ idle) h)
 takes connect.Failed now old new r idle (mid, room, is) =
     let first = steps.same_but_room old mid r room in
-    steps.then_less 0 old mid new first (steps.by (Less 0 mid) new _ is (record { amount = omega arith; right = first.right }))
+    steps.then_less nothing old mid new first (steps.by (Less nothing mid) new _ is (record { amount = λ gate. omega arith; right = first.right }))
 takes connect.NoMemory now old new r idle room = steps.same_but_room old new r room
 
-dials_for : (d : Due) (result : Result (Unit {0}) memory.NoMemory) (now : ℕ) (old new : AtPort) → due_step now old.side ≡ d → HoldsRightly old.side → DialsFor d result now old new → Less 0 old.side new.side
+dials_for : (d : Due) (result : Result (Unit {0}) memory.NoMemory) (now : ℕ) (old new : AtPort) → due_step now old.side ≡ d → HoldsRightly old.side → DialsFor d result now old new → Less nothing old.side new.side
 dials_for (due.Connect at) result now old new is r h = takes h.made now old.side new.side r (dials_idle now old.side at is) h.takes
 dials_for due.Nothing result now old new is r h = steps.same old.side new.side r (ap (λ (x : AtPort). x.side) h.1)
 dials_for due.Plan result now old new is r h = steps.same old.side new.side r (ap (λ (x : AtPort). x.side) h.1)
@@ -99,7 +99,7 @@ dials_for due.Frame result now old new is r h = steps.same old.side new.side r (
 dials_for due.Read result now old new is r h = steps.same old.side new.side r (ap (λ (x : AtPort). x.side) h.1)
 dials_for due.Compose result now old new is r h = steps.same old.side new.side r (ap (λ (x : AtPort). x.side) h.1)
 
-dials : (result : Result (Unit {0}) memory.NoMemory) (now : ℕ) (old new : AtPort) → HoldsRightly old.side → DialsIfDue result now old new → Less 0 old.side new.side
+dials : (result : Result (Unit {0}) memory.NoMemory) (now : ℕ) (old new : AtPort) → HoldsRightly old.side → DialsIfDue result now old new → Less nothing old.side new.side
 dials result now old new r h = dials_for (due_step now old.side) result now old new refl r h
 
 -- ---- words
@@ -109,61 +109,65 @@ lacks_memory one.NoMemory e = refl
 lacks_memory one.Busy e = absurd (cc e)
 lacks_memory one.Stuck e = absurd (cc e)
 lacks_memory one.Dry e = absurd (cc e)
-lacks_memory (one.Full n) e = absurd (cc e)
-lacks_memory (one.Again n k) e = absurd (cc e)
+lacks_memory (one.Full stage n) e = absurd (cc e)
+lacks_memory (one.Again stage n k) e = absurd (cc e)
 lacks_memory one.Spent e = absurd (cc e)
 lacks_memory (one.Faulted f) e = absurd (cc e)
 
 -- by all records, and where parcels go
-abbrev pub held_amid : {D : Type 0} → List RecordNow → Around D → ℕ
-held_amid rs a = held_in_records rs + out.granted_in a.out
+abbrev pub held_amid : {D : Type 0} → Gate → List RecordNow → Around D → ℕ
+held_amid gate rs a = held_in_records gate rs + out.granted_in a.out gate
 
--- the word goes along with what is held by these records and by all that is around them, and each holds rightly
+-- each word goes along with what is held at its gate by these records and by all that is around them, and each holds rightly
 pub record Goes {D : Type 0} (was : List RecordNow) (old : Around D) (is : List RecordNow) (new : Around D) : Type 0 where
-  pub word : Follows old.bytes.word new.bytes.word (held_amid was old) (held_amid is new)
+  pub word : (gate : Gate) → Follows (words old.bytes gate) (words new.bytes gate) (held_amid gate was old) (held_amid gate is new)
   pub right : AllByRecursion HoldsRightly is
 
-module _ {D : Type 0} (heard : D → List Heard) (m : Means) (alone : IsAlone m.throttle.place) where
+module _ {D : Type 0} (heard : D → List Heard) (m : Means) (alone : AreAlone (places m.throttles)) where
   -- ---- one record
+
+  -- by one, and where parcels go
+  abbrev held_one : Gate → Amid D → ℕ
+  held_one gate x = held_in_record gate x.side + out.granted_in x.around.out gate
 
   -- the same of one
   record GoesOne (old new : Amid D) : Type 0 where
-    pub word : Follows old.around.bytes.word new.around.bytes.word (held_in_record old.side + out.granted_in old.around.out) (held_in_record new.side + out.granted_in new.around.out)
+    pub word : (gate : Gate) → Follows (words old.around.bytes gate) (words new.around.bytes gate) (held_one gate old) (held_one gate new)
     pub right : HoldsRightly new.side
 
   dials_and_steps : (old new : Amid D) → HoldsRightly old.side → DialsAndSteps heard m turn.Done old new → GoesOne old new
   dials_and_steps old new r h =
       let first = dials (Ok tt) m.now (at_port old) h.mid r h.dials in
       let second = turns.turns heard m alone h.ended (turning_amid h.mid.side old.around) (turning_amid new.side new.around) first.right (done_memory h.ended h.comes) h.turns in
-      record { word = λ rest e. (let amount = first.amount in second.word rest (omega (arith, amount, e))); right = second.right }
+      record { word = λ gate rest e. (let amount = first.amount gate in second.word gate rest (omega (arith, amount, e))); right = second.right }
 
   turns_if : (free : Bool) (old new : Amid D) → HoldsRightly old.side → TurnsIf free heard m turn.Done old new → GoesOne old new
   turns_if true old new r h = dials_and_steps old new r h
-  turns_if false old new r h = subst (GoesOne old) (sym h) (record { word = λ rest e. e; right = r })
+  turns_if false old new r h = subst (GoesOne old) (sym h) (record { word = λ gate rest e. e; right = r })
 
   stops_in_step : (old new : Amid D) → HoldsRightly old.side → DialsAndSteps heard m turn.NoMemory old new →
-      Follows old.around.bytes.word new.around.bytes.word (held_in_record old.side + out.granted_in old.around.out) (held_in_record new.side + out.granted_in new.around.out)
-  stops_in_step old new r h rest e =
+      (gate : Gate) → Follows (words old.around.bytes gate) (words new.around.bytes gate) (held_one gate old) (held_one gate new)
+  stops_in_step old new r h gate rest e =
       let first = dials (Ok tt) m.now (at_port old) h.mid r h.dials in
       let second = turns.stops heard m alone (turning_amid h.mid.side old.around) (turning_amid new.side new.around) first.right
       (subst (λ (x : RecordTurn). TurnsAs heard m x (turning_amid h.mid.side old.around) (turning_amid new.side new.around)) (lacks_memory h.ended h.comes) h.turns) in
-      let amount = first.amount in
-      second rest (omega (arith, amount, e))
+      let amount = first.amount gate in
+      second gate rest (omega (arith, amount, e))
 
   stops_if : (free : Bool) (old new : Amid D) → HoldsRightly old.side → TurnsIf free heard m turn.NoMemory old new →
-      Follows old.around.bytes.word new.around.bytes.word (held_in_record old.side + out.granted_in old.around.out) (held_in_record new.side + out.granted_in new.around.out)
-  stops_if true old new r (inl h) =
-      let side = (dials (Err (record {})) m.now (at_port old) (at_port new) r h.dials).amount in
-      let word = ap (λ (x : Around D). x.bytes.word) h.only in
-      let all = ap (λ (x : Around D). out.granted_in x.out) h.only in
+      (gate : Gate) → Follows (words old.around.bytes gate) (words new.around.bytes gate) (held_one gate old) (held_one gate new)
+  stops_if true old new r (inl h) gate =
+      let side = (dials (Err (record {})) m.now (at_port old) (at_port new) r h.dials).amount gate in
+      let word = ap (λ (x : Around D). words x.bytes gate) h.only in
+      let all = ap (λ (x : Around D). out.granted_in x.out gate) h.only in
       λ rest e. omega (arith, side, word, all, e)
-  stops_if true old new r (inr h) = stops_in_step old new r h
-  stops_if false old new r h = absurd h
+  stops_if true old new r (inr h) gate = stops_in_step old new r h gate
+  stops_if false old new r h gate = absurd h
 
   -- ---- all of them
 
   itself : (a new : Around D) → new ≡ a → Goes [] a [] new
-  itself a new e = subst (Goes [] a []) (sym e) (record { word = λ rest h. h; right = tt })
+  itself a new e = subst (Goes [] a []) (sym e) (record { word = λ gate rest h. h; right = tt })
 
   each : (rs : List RecordNow) (stood : List (Amid D)) (a new : Around D) → AllByRecursion HoldsRightly rs → EachTurns heard m rs stood a new → Goes rs a (sides_of stood) new
   each [] [] a new r h = itself a new h
@@ -172,65 +176,69 @@ module _ {D : Type 0} (heard : D → List Heard) (m : Means) (alone : IsAlone m.
   each (s ∷ rs) (x ∷ xs) a new r (h, rest) =
       let here = turns_if (is_free a.out) (amid s a) x r.0 h in
       let others = each rs xs x.around new r.1 rest in
-      let was = sums.sum_first held_in_record s rs in
-      let is = sums.sum_first held_in_record x.side (sides_of xs) in
       record {
-        word = λ k e.
-            (let first = here.word (held_in_records rs + k) (omega (arith, was, e)) in
-            let second = others.word (held_in_record x.side + k) (omega (arith, first)) in
+        word = λ gate k e.
+            (let was = sums.sum_first (held_in_record gate) s rs in
+            let is = sums.sum_first (held_in_record gate) x.side (sides_of xs) in
+            let first = here.word gate (held_in_records gate rs + k) (omega (arith, was, e)) in
+            let second = others.word gate (held_in_record gate x.side + k) (omega (arith, first)) in
             omega (arith, is, second));
         right = (here.right, others.right);
       }
 
   -- ---- the letter that was held
 
-  retries : (h : Option Letter) (o new : OutboxNow D) → o.held ≡ h → RetriesFor heard h o new → out.granted_in new + returned_again h new.held ≡ out.granted_in o
-  retries (Some l) o new is h =
-      let was = ap held_in is in
-      let all = turns.dispatched heard l o new new.held refl h in
+  retries : (gate : Gate) (h : Option Letter) (o new : OutboxNow D) → o.held ≡ h → RetriesFor heard h o new → out.granted_in new gate + returned_again h new.held gate ≡ out.granted_in o gate
+  retries gate (Some l) o new is h =
+      let was = ap (λ (x : Option Letter). held_in x gate) is in
+      let all = turns.dispatched heard gate l o new new.held refl h in
       omega (arith, was, all)
-  retries None o new is h = let all = ap out.granted_in h in omega (arith, all)
+  retries gate None o new is h = let all = ap (λ (x : OutboxNow D). out.granted_in x gate) h in omega (arith, all)
 
   module _ (old : AllAmid D) (retried : Around D) (again : RetriesFor heard old.around.out.held old.around.out retried.out)
-      (gives : retried.bytes.word ≡ old.around.bytes.word - returned_again old.around.out.held retried.out.held) where
-    retried_word : Follows old.around.bytes.word retried.bytes.word (held_amid old.records old.around) (held_amid old.records retried)
-    retried_word =
-        let all = retries old.around.out.held old.around.out retried.out refl again in
-        sums.given (returned_again old.around.out.held retried.out.held) old.around.bytes.word retried.bytes.word (held_amid old.records old.around) (held_amid old.records retried) gives (omega (arith, all))
+      (gives : Return (returned_again old.around.out.held retried.out.held) m.throttles old.around.bytes retried.bytes) where
+    retried_word : (gate : Gate) → Follows (words old.around.bytes gate) (words retried.bytes gate) (held_amid gate old.records old.around) (held_amid gate old.records retried)
+    retried_word gate =
+        let all = retries gate old.around.out.held old.around.out retried.out refl again in
+        sums.given (returned_again old.around.out.held retried.out.held gate) (words old.around.bytes gate) (words retried.bytes gate) (held_amid gate old.records old.around) (held_amid gate old.records retried)
+        (gives gate (alone gate)) (omega (arith, all))
 
   pub all_turn : (old new : AllAmid D) → AllByRecursion HoldsRightly old.records → TurnsEach heard m turn.Done old new → Goes old.records old.around new.records new.around
   all_turn old new r h =
-      let first = retried_word old h.retried h.retries (h.gives alone) in
+      let first = retried_word old h.retried h.retries h.gives in
       let second = each old.records h.turns.stood h.retried new.around r h.turns.turns in
       subst (λ (rs : List RecordNow). Goes old.records old.around rs new.around) (sym h.turns.records) (record {
-        word = sums.along old.around.bytes.word h.retried.bytes.word new.around.bytes.word (held_amid old.records old.around) (held_amid old.records h.retried) (held_amid (sides_of h.turns.stood) new.around) first second.word;
+        word = λ gate. sums.along (words old.around.bytes gate) (words h.retried.bytes gate) (words new.around.bytes gate) (held_amid gate old.records old.around) (held_amid gate old.records h.retried)
+            (held_amid gate (sides_of h.turns.stood) new.around) (first gate) (second.word gate);
         right = second.right;
       })
 
   -- ---- a turn of all in which memory ran out
 
   pub all_stop : (old new : AllAmid D) → AllByRecursion HoldsRightly old.records → TurnsEach heard m turn.NoMemory old new →
-      Follows old.around.bytes.word new.around.bytes.word (held_amid old.records old.around) (held_amid new.records new.around)
-  all_stop old new r h = joined (stops_if (is_free h.turns.mid.out) (amid h.turns.at h.turns.mid) (amid h.turns.left new.around) (all_back HoldsRightly h.turns.before (h.turns.at ∷ h.turns.rest) split).0 h.turns.stops)
+      (gate : Gate) → Follows (words old.around.bytes gate) (words new.around.bytes gate) (held_amid gate old.records old.around) (held_amid gate new.records new.around)
+  all_stop old new r h gate =
+      joined (stops_if (is_free h.turns.mid.out) (amid h.turns.at h.turns.mid) (amid h.turns.left new.around) (all_back HoldsRightly h.turns.before (h.turns.at ∷ h.turns.rest) split).0 h.turns.stops gate)
     where
       split : AllByRecursion HoldsRightly (h.turns.before ++ h.turns.at ∷ h.turns.rest)
       split = subst (AllByRecursion HoldsRightly) h.turns.split r
 
-      first : Follows old.around.bytes.word h.retried.bytes.word (held_amid old.records old.around) (held_amid old.records h.retried)
-      first = retried_word old h.retried h.retries (h.gives alone)
+      first : Follows (words old.around.bytes gate) (words h.retried.bytes gate) (held_amid gate old.records old.around) (held_amid gate old.records h.retried)
+      first = retried_word old h.retried h.retries h.gives gate
 
       those : Goes h.turns.before h.retried (sides_of h.turns.stood) h.turns.mid
       those = each h.turns.before h.turns.stood h.retried h.turns.mid (all_front HoldsRightly h.turns.before (h.turns.at ∷ h.turns.rest) split) h.turns.turns
 
       -- up to the record at which it stops, and that one
-      joined : Follows h.turns.mid.bytes.word new.around.bytes.word (held_in_record h.turns.at + out.granted_in h.turns.mid.out) (held_in_record h.turns.left + out.granted_in new.around.out) →
-          Follows old.around.bytes.word new.around.bytes.word (held_amid old.records old.around) (held_amid new.records new.around)
+      joined : Follows (words h.turns.mid.bytes gate) (words new.around.bytes gate) (held_in_record gate h.turns.at + out.granted_in h.turns.mid.out gate)
+          (held_in_record gate h.turns.left + out.granted_in new.around.out gate) →
+          Follows (words old.around.bytes gate) (words new.around.bytes gate) (held_amid gate old.records old.around) (held_amid gate new.records new.around)
       joined last rest e =
-          let was = ap held_in_records h.turns.split ∙ sums.sum_behind held_in_record h.turns.before (h.turns.at ∷ h.turns.rest) in
-          let at = sums.sum_first held_in_record h.turns.at h.turns.rest in
-          let is = ap held_in_records h.turns.records ∙ sums.sum_behind held_in_record (sides_of h.turns.stood) (h.turns.left ∷ h.turns.rest) in
-          let left = sums.sum_first held_in_record h.turns.left h.turns.rest in
+          let was = ap (held_in_records gate) h.turns.split ∙ sums.sum_behind (held_in_record gate) h.turns.before (h.turns.at ∷ h.turns.rest) in
+          let at = sums.sum_first (held_in_record gate) h.turns.at h.turns.rest in
+          let is = ap (held_in_records gate) h.turns.records ∙ sums.sum_behind (held_in_record gate) (sides_of h.turns.stood) (h.turns.left ∷ h.turns.rest) in
+          let left = sums.sum_first (held_in_record gate) h.turns.left h.turns.rest in
           let one = first rest e in
-          let two = those.word (held_in_record h.turns.at + held_in_records h.turns.rest + rest) (omega (arith, was, at, one)) in
-          let three = last (held_in_records (sides_of h.turns.stood) + held_in_records h.turns.rest + rest) (omega (arith, two)) in
+          let two = those.word gate (held_in_record gate h.turns.at + held_in_records gate h.turns.rest + rest) (omega (arith, was, at, one)) in
+          let three = last (held_in_records gate (sides_of h.turns.stood) + held_in_records gate h.turns.rest + rest) (omega (arith, two)) in
           omega (arith, is, left, three)

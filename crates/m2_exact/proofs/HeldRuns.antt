@@ -1,16 +1,19 @@
--- At each node of a run in memory the word is what the node holds: before the first deed, and behind each.
-use Rattle.std.proofs.Common.{◌≡◌, ℕ, ◌+◌, List, [], ◌∷◌, length, map, slice_get, slice_set, Option, None, Some, Ok, refl, sym, subst, ap, arith}
+-- At each node of a run in memory each word is what the node holds: before the first deed, and behind each.
+use Rattle.std.proofs.Common.{◌≡◌, ℕ, ◌+◌, List, [], ◌∷◌, length, map, slice_get, slice_set, Option, None, Some, Ok, refl, sym, subst, ◌∙◌, ap, arith}
 use Rattle.std.specs.List.{AllByRecursion}
 use Rattle.std.specs.Option.{option_to_list}
 use Rattle.m2_dispatch.specs.Heard.{Heard, heard_by}
 use Rattle.m2_dispatch.specs.declared.logged.Logged.{Logged}
-use Rattle.m2_dispatch.specs.m2_shared.Throttle.{SeenThrottle}
+use Rattle.m2_dispatch.specs.declared.parcel.Parcel.{Parcel}
+use Rattle.m2_dispatch.specs.m2_shared.Gates.{Gate, places, words}
+use Rattle.m2_dispatch.specs.m2_shared.declared.throttles.Throttles.{Throttles}
 use Rattle.m2_fabric.proofs.m2_lemmas.Lists.{all_append, all_at, all_by_places, all_of_map, cons_same}
 use Rattle.m2_fabric.specs.InStep.{Network}
 use Rattle.m2_fabric.specs.SimFabric.{Faults, Flows, Meets}
 use Rattle.m2_scenario.specs.declared.line.Line.{Line}
 use Rattle.m2_scenario.specs.declared.link.Link.{Link}
 use Rattle.m2_scenario.specs.declared.node.Node.{Node}
+use Rattle.m2_script.proofs.m2_center.m2_turn.m2_core.Holding.{none_at}
 use Rattle.m2_script.specs.Made.{new_towards, other_of, over, records_of, roomless}
 use Rattle.m2_script.specs.Nodes.{IsNewNode}
 use Rattle.m2_script.specs.Script as script
@@ -18,10 +21,12 @@ use Rattle.m2_script.specs.Script.{Deed, Ends, Happens, IsPassed, RunNow, script
 use Rattle.m2_script.specs.Started.{IsFirst}
 use Rattle.m2_script.specs.declared.made.Towards.{Towards}
 use Rattle.m2_script.specs.m2_center.Center.{CenterNow}
+use Rattle.m2_script.specs.m2_center.m2_core.LiveNow.{HoldsNothing}
 use Rattle.m2_script.specs.m2_center.m2_record.Calls.{all_granted}
 use Rattle.m2_script.specs.m2_center.m2_record.RecordNow.{RecordNow}
 use Rattle.m2_script.specs.m2_cluster.Cluster.{ClusterNow}
 use Rattle.m2_script.specs.m2_cluster.Node.{NodeNow, rest_of_node}
+use Rattle.m2_exact.proofs.Alone.{alone_places, unused_words}
 use Rattle.m2_exact.proofs.HeldCenters as nodes
 use Rattle.m2_exact.proofs.HeldCores as cores
 use Rattle.m2_exact.proofs.HeldSums as sums
@@ -32,7 +37,7 @@ use Rattle.m2_exact.specs.Holding.{HoldsRightly, NodeHoldsItsWord, NodesHoldThei
 
 -- nothing is held
 abbrev IsIdle : RecordNow → Type 0
-IsIdle r = (r.core.live.granted ≡ None) × (r.parcels ≡ [])
+IsIdle r = HoldsNothing r.core.live.granted × (r.parcels ≡ [])
 
 new_idle : (number word : ℕ) (mine peer : Option Node) (t : Towards) → AllByRecursion IsIdle (option_to_list (new_towards mine peer number word t))
 new_idle number word (Some mine) (Some peer) t = ((refl, refl), tt)
@@ -48,13 +53,13 @@ made_idle nodes number word [] = tt
 made_idle nodes number word (l ∷ ls) =
     all_append IsIdle (option_to_list (over nodes number word (other_of number l))) (records_of nodes ls number word) (over_idle nodes number word (other_of number l)) (made_idle nodes number word ls)
 
-none_held : (rs : List RecordNow) → AllByRecursion IsIdle rs → held_in_records rs ≡ 0
-none_held [] h = refl
-none_held (r ∷ rs) (h, more) =
-    let first = sums.sum_first held_in_record r rs in
-    let granted = ap (λ o. held_in_record (record r { core = record r.core { live = record r.core.live { granted = o } } })) h.0 in
-    let parcels = ap all_granted h.1 in
-    let rest = none_held rs more in
+none_held : (gate : Gate) (rs : List RecordNow) → AllByRecursion IsIdle rs → held_in_records gate rs ≡ 0
+none_held gate [] h = refl
+none_held gate (r ∷ rs) (h, more) =
+    let first = sums.sum_first (held_in_record gate) r rs in
+    let granted = none_at r.core.live.granted h.0 gate in
+    let parcels = ap (λ (xs : List Parcel). all_granted xs gate) h.1 in
+    let rest = none_held gate rs more in
     omega (arith, first, granted, parcels, rest)
 
 all_rightly : (rs : List RecordNow) → AllByRecursion IsIdle rs → AllByRecursion HoldsRightly rs
@@ -68,13 +73,14 @@ first_hold nodes links lines s h = all_by_places NodeHoldsItsWord s.cluster.node
     new_holds k x n new =
         let idle = all_of_map IsIdle roomless new.records (subst (AllByRecursion IsIdle) (sym new.over) (made_idle nodes k (k + 1) links)) in
         record {
-          alone = ap (λ (t : SeenThrottle). t.place) new.throttle;
+          alone = alone_places (places n.throttles) x.throttle (λ gate. ap (λ (t : Throttles). places t gate) new.throttles);
           center = record {
-            word =
-                let word = ap (λ (c : CenterNow (List Logged)). c.bytes.word) new.center in
-                let held = ap held_in_center new.center in
-                let none = none_held new.records idle in
-                omega (arith, word, held, none);
+            word = λ gate. (
+                let word = ap (λ (c : CenterNow (List Logged)). words c.bytes gate) new.center ∙ unused_words gate in
+                let held = ap (held_in_center gate) new.center in
+                let none = none_held gate new.records idle in
+                omega (arith, word, held, none)
+                );
             records = subst (AllByRecursion HoldsRightly) (sym (ap (λ (c : CenterNow (List Logged)). c.records) new.center)) (all_rightly new.records idle);
           };
         }

@@ -1,24 +1,30 @@
 -- What is held by a record, behind each of its steps.
-use Rattle.std.proofs.Common.{◌≡◌, ◌&&◌, ℕ, ◌+◌, ◌-◌, if◌then◌else◌, [], ◌∷◌, Bool, true, false, Option, None, Some, Result, Ok, Err, refl, sym, subst, ◌∙◌, ap, arith}
+use Rattle.std.proofs.Common.{◌≡◌, ◌&&◌, ℕ, ◌+◌, ◌-◌, if◌then◌else◌, List, [], ◌∷◌, Bool, true, false, Option, None, Some, Result, Ok, Err, refl, sym, subst, ◌∙◌, ap, arith, inl, inr}
 use Rattle.std.specs.Prelude.{◌≢◌, IfSome}
 use Rattle.std.specs.Option.{is_some}
 use Rattle.m2_dispatch.specs.declared.parcel.Parcel.{Parcel}
-use Rattle.m2_dispatch.specs.m2_shared.Place.{IsAlone}
+use Rattle.m2_dispatch.specs.m2_shared.Gates.{Gate, Keep, Return, Stay, held, nothing_held, places, words}
+use Rattle.m2_dispatch.specs.m2_shared.declared.more.More.{More}
+use Rattle.m2_dispatch.specs.m2_shared.declared.more.More.TheVariants as more
+use Rattle.m2_dispatch.specs.m2_shared.declared.peer_grants.PeerGrants.{PeerGrants}
+use Rattle.m2_dispatch.specs.m2_shared.declared.peer_type.PeerType.{PeerType}
+use Rattle.m2_dispatch.specs.m2_shared.declared.throttles.TakePasses.{TakePasses}
 use Rattle.m2_fabric.specs.declared.end.EndRead.{EndRead}
 use Rattle.m2_fabric.specs.declared.end.EndRead.TheVariants as read
 use Rattle.m2_fabric.specs.m2_bytes.declared.memory.NoMemory as memory
+use Rattle.m2_fabric.proofs.m2_lemmas.Options.{some_same}
 use Rattle.m2_script.proofs.m2_center.m2_turn.m2_core.Helds as helds
+use Rattle.m2_script.proofs.m2_center.m2_turn.m2_core.Holding.{nothing_at}
 use Rattle.m2_script.proofs.m2_center.m2_turn.m2_record.Arriving.{session-sound}
 use Rattle.m2_script.specs.m2_center.m2_core.CoreNow.{CoreNow}
 use Rattle.m2_script.specs.m2_center.m2_core.Counting.{CountsIf, to_count}
 use Rattle.m2_script.specs.m2_center.m2_core.Front as front
 use Rattle.m2_script.specs.m2_center.m2_core.Front.{FrontHeard, heard_by}
-use Rattle.m2_script.specs.m2_center.m2_core.Granting.{Throttled, after_granted}
+use Rattle.m2_script.specs.m2_center.m2_core.Granting.{Throttled, after_asked}
 use Rattle.m2_script.specs.m2_center.m2_core.Hearing as hearing
 use Rattle.m2_script.specs.m2_center.m2_core.LiveCalls.{live_with}
 use Rattle.m2_script.specs.m2_center.m2_core.LiveHearing.{after_answer, resumed_by_answer}
-use Rattle.m2_script.specs.m2_center.m2_core.LiveNow as live
-use Rattle.m2_script.specs.m2_center.m2_core.LiveNow.{LiveNow, OnFeedNow, is_granted_in, is_granted_on, is_ready}
+use Rattle.m2_script.specs.m2_center.m2_core.LiveNow.{HoldsNothing, LiveNow, OnFeedNow, asked_in, asked_on, is_ready}
 use Rattle.m2_script.specs.m2_center.m2_core.Next.{IsNext, IsResetHeard}
 use Rattle.m2_script.specs.m2_center.m2_core.OnFeed.{granted_feed}
 use Rattle.m2_script.specs.m2_center.m2_core.ToCompose.{text_on, text_rows, to_compose}
@@ -48,7 +54,7 @@ use Rattle.m2_script.specs.m2_center.m2_feed.m2_session.declared.session.Phase.{
 use Rattle.m2_script.specs.m2_center.m2_feed.m2_session.declared.session.Phase.TheVariants as phase
 use Rattle.m2_script.specs.m2_center.m2_record.Calls.{Breaks, ClosesFor, ComposesAs, CountsResumption, GoesDown, HandsOut, IsSameButRoom, Shakes, Writes, all_granted, fault_put, granted_in, returned_for}
 use Rattle.m2_script.specs.m2_center.m2_record.Due.{due_step, next_step}
-use Rattle.m2_script.specs.m2_center.m2_record.Framing.{AnswersFront, Frames, Greets, letter_of, word_framed}
+use Rattle.m2_script.specs.m2_center.m2_record.Framing.{AnswersFront, Frames, Greets, WordsFramed, letter_of}
 use Rattle.m2_script.specs.m2_center.m2_record.IsRecord.{IsRecord}
 use Rattle.m2_script.specs.m2_center.m2_record.Reading.{CountsAnswer, EndsRead, Reads, answer_by, answer_heard, fault_read, faulted_or}
 use Rattle.m2_script.specs.m2_center.m2_record.RecordNow.{RecordNow}
@@ -68,77 +74,89 @@ use Rattle.m2_exact.proofs.HeldSums as sums
 use Rattle.m2_exact.proofs.HeldSums.{Follows}
 use Rattle.m2_exact.proofs.Leaving as leaving
 use Rattle.m2_exact.proofs.Steps as steps
-use Rattle.m2_exact.specs.Holding.{HoldsRightly, IsHeldRightly, held_in_record}
+use Rattle.m2_exact.specs.Holding.{AreAlone, HoldsRightly, IsHeldRightly, held_in_record}
 
 -- ---- words
 
--- so many bytes less are held, rightly
-pub record Less (n : ℕ) (old new : RecordNow) : Type 0 where
-  pub amount : held_in_record new + n ≡ held_in_record old
+-- so much less is held at each gate, rightly
+pub record Less (n : Gate → ℕ) (old new : RecordNow) : Type 0 where
+  pub amount : (gate : Gate) → held_in_record gate new + n gate ≡ held_in_record gate old
   pub right : HoldsRightly new
+
+abbrev pub nothing : Gate → ℕ
+nothing gate = 0
 
 -- a record that is as it was, but for what isn't held by it
 pub record IsLike (old new : RecordNow) : Type 0 where
   pub facts : new.core.facts ≡ old.core.facts
   pub granted : new.core.live.granted ≡ old.core.live.granted
   pub session : new.core.live.session ≡ old.core.live.session
-  pub told : is_granted_on new.core.live.feed ≡ is_granted_on old.core.live.feed
+  pub asked : is_some (asked_on old.core.live.feed) ≡ true → is_some (asked_on new.core.live.feed) ≡ true
   pub parcels : new.parcels ≡ old.parcels
 
 -- a record as it stands, in other words
 pub by : (P : RecordNow → Type 0) (new x : RecordNow) → new ≡ x → P x → P new
 by P new x e p = subst P (sym e) p
 
-pub no_less : (old new : RecordNow) → new.core.live.granted ≡ old.core.live.granted → all_granted new.parcels ≡ all_granted old.parcels → held_in_record new + 0 ≡ held_in_record old
-no_less old new g p = let e = ap live.held g in omega (arith, e, p)
+-- the parcels have as much
+abbrev pub GrantAlike : RecordNow → RecordNow → Type 0
+GrantAlike old new = (gate : Gate) → all_granted new.parcels gate ≡ all_granted old.parcels gate
 
-pub like : (old new : RecordNow) → HoldsRightly old → IsLike old new → Less 0 old new
+pub grant_alike : (old new : RecordNow) → new.parcels ≡ old.parcels → GrantAlike old new
+grant_alike old new e gate = ap (λ (xs : List Parcel). all_granted xs gate) e
+
+pub no_less : (old new : RecordNow) → new.core.live.granted ≡ old.core.live.granted → GrantAlike old new → (gate : Gate) → held_in_record gate new + 0 ≡ held_in_record gate old
+no_less old new g p gate = let e = ap (λ (x : PeerGrants). held x gate) g in let q = p gate in omega (arith, e, q)
+
+pub like : (old new : RecordNow) → HoldsRightly old → IsLike old new → Less nothing old new
 like old new r h = record {
-  amount = no_less old new h.granted (ap all_granted h.parcels);
-  right = subst (λ (f : SideFacts). IsHeldRightly f new.core.live) (sym h.facts) (cores.kept old.core.facts old.core.live new.core.live h.granted h.session h.told r);
+  amount = no_less old new h.granted (grant_alike old new h.parcels);
+  right = subst (λ (f : SideFacts). IsHeldRightly f new.core.live) (sym h.facts) (cores.kept old.core.facts old.core.live new.core.live h.granted h.session h.asked r);
 }
 
 itself : (old : RecordNow) → IsLike old old
-itself old = record { facts = refl; granted = refl; session = refl; told = refl; parcels = refl }
+itself old = record { facts = refl; granted = refl; session = refl; asked = λ e. e; parcels = refl }
 
-pub same : (old new : RecordNow) → HoldsRightly old → new ≡ old → Less 0 old new
-same old new r e = by (Less 0 old) new old e (like old old r (itself old))
+pub same : (old new : RecordNow) → HoldsRightly old → new ≡ old → Less nothing old new
+same old new r e = by (Less nothing old) new old e (like old old r (itself old))
 
-pub same_but_room : (old new : RecordNow) → HoldsRightly old → IsSameButRoom old new → Less 0 old new
-same_but_room old new r e = by (Less 0 old) new _ e (record { amount = omega arith; right = r })
+pub same_but_room : (old new : RecordNow) → HoldsRightly old → IsSameButRoom old new → Less nothing old new
+same_but_room old new r e = by (Less nothing old) new _ e (record { amount = λ gate. omega arith; right = r })
 
 -- nothing is held for a feed any more
-pub drops : (old new : RecordNow) → new.core.live.granted ≡ None → all_granted new.parcels ≡ all_granted old.parcels → Less (live.held old.core.live.granted) old new
-drops old new none p = record {
-  amount = let e = ap live.held none in omega (arith, e, p);
-  right = cores.none_right new.core.facts new.core.live none;
+pub drops : (old new : RecordNow) (peer : PeerType) → new.core.live.granted ≡ nothing_held peer → GrantAlike old new → Less (held old.core.live.granted) old new
+drops old new peer none p = record {
+  amount = λ gate. (let e = ap (λ (x : PeerGrants). held x gate) none in let zero = nothing_at peer gate in let q = p gate in omega (arith, e, zero, q));
+  right = cores.none_right new.core.facts new.core.live (cores.none_of new.core.live.granted peer none);
 }
 
 -- less behind as much
-pub then_less : (n : ℕ) (old mid new : RecordNow) → Less 0 old mid → Less n mid new → Less n old new
-then_less n old mid new h g = record { amount = let one = h.amount in let other = g.amount in omega (arith, one, other); right = g.right }
+pub then_less : (n : Gate → ℕ) (old mid new : RecordNow) → Less nothing old mid → Less n mid new → Less n old new
+then_less n old mid new h g = record { amount = λ gate. (let one = h.amount gate in let other = g.amount gate in omega (arith, one, other)); right = g.right }
 
-pub less_by : (n m : ℕ) (old new : RecordNow) → n ≡ m → Less n old new → Less m old new
-less_by n m old new e h = subst (λ (k : ℕ). Less k old new) e h
+-- what was held, of grants that are the same
+less_held : (g k : PeerGrants) (old new : RecordNow) → g ≡ k → Less (held g) old new → Less (held k) old new
+less_held g k old new e h = subst (λ (x : PeerGrants). Less (held x) old new) e h
 
 -- ---- the session is given up, or the feed closed
 
-pub breaks : (now : ℕ) (old new : RecordNow) → Breaks now old new → Less (live.held old.core.live.granted) old new
+pub breaks : (now : ℕ) (old new : RecordNow) → Breaks now old new → Less (held old.core.live.granted) old new
 breaks now old new h =
-    drops old new (ap (λ (r : RecordNow). r.core.live.granted) h ∙ helds.drops old.core.live)
-    (ap (λ (r : RecordNow). all_granted r.parcels) h ∙ sums.told_behind old.parcels old.place _ _)
+    drops old new old.core.live.granted.peer (ap (λ (r : RecordNow). r.core.live.granted) h ∙ helds.drops old.core.live)
+    (λ gate. ap (λ (r : RecordNow). all_granted r.parcels gate) h ∙ sums.told_behind gate old.parcels old.place _ _)
 
-pub goes_down : (planned : Bool) (old new : RecordNow) → GoesDown planned old new → Less (live.held old.core.live.granted) old new
+pub goes_down : (planned : Bool) (old new : RecordNow) → GoesDown planned old new → Less (held old.core.live.granted) old new
 goes_down planned old new h =
-    drops old new (ap (λ (r : RecordNow). r.core.live.granted) h ∙ cores.down_drops old.core.live)
-    (ap (λ (r : RecordNow). all_granted r.parcels) h ∙ sums.told_behind old.parcels old.place (step_of old.core.live.session event.MarkedDown).effects.discard (step_of old.core.live.session event.MarkedDown).effects.remote_reset)
+    drops old new old.core.live.granted.peer (ap (λ (r : RecordNow). r.core.live.granted) h ∙ cores.down_drops old.core.live)
+    (λ gate. ap (λ (r : RecordNow). all_granted r.parcels gate) h
+    ∙ sums.told_behind gate old.parcels old.place (step_of old.core.live.session event.MarkedDown).effects.discard (step_of old.core.live.session event.MarkedDown).effects.remote_reset)
 
 -- ---- the plan
 
 pub plans : (x : Option PlanStep) (a : Result (Unit {0}) memory.NoMemory) (now : ℕ) (old new : RecordNow) → HoldsRightly old → PlansAs x a now old new → Less (returned_planned x old) old new
-plans (Some (step.Post p)) (Ok u) now old new r h = by (Less 0 old) new _ h (record { amount = omega arith; right = cores.kept old.core.facts old.core.live _ refl refl refl r })
+plans (Some (step.Post p)) (Ok u) now old new r h = by (Less nothing old) new _ h (record { amount = λ gate. omega arith; right = cores.kept old.core.facts old.core.live _ refl refl (λ e. e) r })
 plans (Some (step.Post p)) (Err e) now old new r h = same old new r h
-plans (Some step.Dial) (Ok u) now old new r h = by (Less 0 old) new _ h (record { amount = omega arith; right = r })
+plans (Some step.Dial) (Ok u) now old new r h = by (Less nothing old) new _ h (record { amount = λ gate. omega arith; right = r })
 plans (Some step.Dial) (Err e) now old new r h = absurd h
 plans (Some step.Down) (Ok u) now old new r h = goes_down true old new h
 plans (Some step.Down) (Err e) now old new r h = absurd h
@@ -148,16 +166,20 @@ plans None a now old new r h = goes_down false old new h.1
 
 pub hands : (x : Parcel) (old new : RecordNow) → HoldsRightly old → HandsOut (Some x) old new → Less (granted_in x) old new
 hands x old new r (first, only) = record {
-  amount = let p = ap all_granted first in let e = ap (λ (z : RecordNow). live.held z.core.live.granted) only in omega (arith, p, e);
+  amount = λ gate. (
+      let p = ap (λ (xs : List Parcel). all_granted xs gate) first in
+      let e = ap (λ (z : RecordNow). held z.core.live.granted gate) only in
+      omega (arith, p, e)
+      );
   right = by HoldsRightly new _ only r;
 }
 
 -- ---- bytes
 
-closes_for : (f : Option WireFault) (now : ℕ) (old mid new : RecordNow) → Less 0 old mid → mid.core.live.granted ≡ old.core.live.granted → ClosesFor f now mid new → Less (returned_for f old) old new
+closes_for : (f : Option WireFault) (now : ℕ) (old mid new : RecordNow) → Less nothing old mid → mid.core.live.granted ≡ old.core.live.granted → ClosesFor f now mid new → Less (returned_for f old) old new
 closes_for (Some f) now old mid new h g e =
-    less_by (live.held mid.core.live.granted) (live.held old.core.live.granted) old new (ap live.held g) (then_less (live.held mid.core.live.granted) old mid new h (breaks now mid new e))
-closes_for None now old mid new h g e = by (Less 0 old) new mid e h
+    less_held mid.core.live.granted old.core.live.granted old new g (then_less (held mid.core.live.granted) old mid new h (breaks now mid new e))
+closes_for None now old mid new h g e = by (Less nothing old) new mid e h
 
 pub writes : (a : FeedWrite) (now : ℕ) (old new : RecordNow) → HoldsRightly old → Writes a now old new → Less (returned_for (fault_put a) old) old new
 writes a now old new r h =
@@ -168,7 +190,7 @@ writes a now old new r h =
       facts = ap (λ (c : CoreNow). c.facts) once.only;
       granted = granted;
       session = ap (λ (c : CoreNow). c.live.session) once.only;
-      told = cores.written a old.core.live.feed h.mid.core.live.feed once.writes;
+      asked = λ e. ap is_some (cores.written a old.core.live.feed h.mid.core.live.feed once.writes) ∙ e;
       parcels = ap (λ (z : RecordNow). z.parcels) h.once.only;
     }))
     granted h.closes
@@ -178,15 +200,15 @@ record Heeded (f : SideFacts) (l k : LiveNow) : Type 0 where
   pub granted : k.granted ≡ l.granted
   pub right : IsHeldRightly f k
 
-heeds : (f : SideFacts) (a : EndRead) (h : Option Heard) (was old new : LiveNow) → IsHeldRightly f was → old ≡ live_with old.feed was → is_granted_on old.feed ≡ is_granted_on was.feed → h ≡ hearing.heard_after a f old →
+heeds : (f : SideFacts) (a : EndRead) (h : Option Heard) (was old new : LiveNow) → IsHeldRightly f was → old ≡ live_with old.feed was → (is_some (asked_on was.feed) ≡ true → is_some (asked_on old.feed) ≡ true) → h ≡ hearing.heard_after a f old →
     hearing.Heeds h old new → Heeded f was new
-heeds f a h was old new r is told heard e = by_heard h heard e
+heeds f a h was old new r is asked heard e = by_heard h heard e
   where
     granted : old.granted ≡ was.granted
     granted = ap (λ (l : LiveNow). l.granted) is
 
     right : IsHeldRightly f old
-    right = cores.kept f was old granted (ap (λ (l : LiveNow). l.session) is) told r
+    right = cores.kept f was old granted (ap (λ (l : LiveNow). l.session) is) asked r
 
     stays : new ≡ old → Heeded f was new
     stays e = record { granted = ap (λ (l : LiveNow). l.granted) e ∙ granted; right = subst (IsHeldRightly f) (sym e) right }
@@ -194,8 +216,8 @@ heeds f a h was old new r is told heard e = by_heard h heard e
     takes : (h : Heard) → Some h ≡ hearing.heard_after a f old → (t : Option FeedNow) → new ≡ after_answer h t old → Heeded f was new
     takes h heard t e =
         let idle = cores.idle f old right (cores.heard_idle a f old h (sym heard)) in
-        let none : new.granted ≡ None = ap (λ (l : LiveNow). l.granted) e ∙ cores.none_told (event_of h) (record old { feed = t; resumed = resumed_by_answer h old.resumed }) idle in
-        record { granted = none ∙ sym idle ∙ granted; right = cores.none_right f new none }
+        let same : new.granted ≡ old.granted = ap (λ (l : LiveNow). l.granted) e ∙ cores.none_told (event_of h) (record old { feed = t; resumed = resumed_by_answer h old.resumed }) idle in
+        record { granted = same ∙ granted; right = cores.none_right f new (subst HoldsNothing (sym same) idle) }
 
     by_heard : (h : Option Heard) → h ≡ hearing.heard_after a f old → hearing.Heeds h old new → Heeded f was new
     by_heard None heard e = stays e
@@ -203,44 +225,44 @@ heeds f a h was old new r is told heard e = by_heard h heard e
     by_heard (Some (answer.Refused why)) heard e = stays e
     by_heard (Some h) heard e = takes h heard e.passed e.live
 
-counts : (n : Option ℕ) (old new : RecordNow) → HoldsRightly old → CountsIf n old.core new.core → new.parcels ≡ old.parcels → Less 0 old new
+counts : (n : Option ℕ) (old new : RecordNow) → HoldsRightly old → CountsIf n old.core new.core → new.parcels ≡ old.parcels → Less nothing old new
 counts (Some n) old new r h p = like old new r (record {
   facts = ap (λ (c : CoreNow). c.facts) h.only;
   granted = ap (λ (c : CoreNow). c.live.granted) h.only;
   session = ap (λ (c : CoreNow). c.live.session) h.only;
-  told = ap (λ (c : CoreNow). is_granted_on c.live.feed) h.only;
+  asked = λ e. ap (λ (c : CoreNow). is_some (asked_on c.live.feed)) h.only ∙ e;
   parcels = p;
 })
 counts None old new r h p = like old new r (record {
   facts = ap (λ (c : CoreNow). c.facts) h;
   granted = ap (λ (c : CoreNow). c.live.granted) h;
   session = ap (λ (c : CoreNow). c.live.session) h;
-  told = ap (λ (c : CoreNow). is_granted_on c.live.feed) h;
+  asked = λ e. ap (λ (c : CoreNow). is_some (asked_on c.live.feed)) h ∙ e;
   parcels = p;
 })
 
-pub counts_resumption : (old new : RecordNow) → HoldsRightly old → CountsResumption old new → Less 0 old new
+pub counts_resumption : (old new : RecordNow) → HoldsRightly old → CountsResumption old new → Less nothing old new
 counts_resumption old new r (h, only) = counts (to_count old.core.live) old new r h (ap (λ (z : RecordNow). z.parcels) only)
 
-counts_answer : (h : Option Heard) (old new : RecordNow) → HoldsRightly old → CountsAnswer h old new → Less 0 old new
+counts_answer : (h : Option Heard) (old new : RecordNow) → HoldsRightly old → CountsAnswer h old new → Less nothing old new
 counts_answer (Some (answer.ReconnectOk seen)) old new r h = counts_resumption old new r h
 counts_answer h old new r e = same old new r e
 
-ends_read : (f : Option WireFault) (h : Option Heard) (now : ℕ) (old mid new : RecordNow) → Less 0 old mid → mid.core.live.granted ≡ old.core.live.granted → EndsRead f h now mid new → Less (returned_for f old) old new
+ends_read : (f : Option WireFault) (h : Option Heard) (now : ℕ) (old mid new : RecordNow) → Less nothing old mid → mid.core.live.granted ≡ old.core.live.granted → EndsRead f h now mid new → Less (returned_for f old) old new
 ends_read (Some f) h now old mid new less g e =
-    less_by (live.held mid.core.live.granted) (live.held old.core.live.granted) old new (ap live.held g) (then_less (live.held mid.core.live.granted) old mid new less (breaks now mid new e))
-ends_read None h now old mid new less g e = then_less 0 old mid new less (counts_answer h mid new less.right e)
+    less_held mid.core.live.granted old.core.live.granted old new g (then_less (held mid.core.live.granted) old mid new less (breaks now mid new e))
+ends_read None h now old mid new less g e = then_less nothing old mid new less (counts_answer h mid new less.right e)
 
 pub reads : (x : _) (now : ℕ) (old new : RecordNow) → HoldsRightly old → Reads x now old new → Less (returned_for (fault_read x) old) old new
 reads x now old new r h =
     let once = h.once.core in
-    let told = cores.reads x.answer old.core.live.feed once.feed once.reads in
-    let heeded = heeds old.core.facts x.answer x.heard old.core.live (live_with once.feed old.core.live) h.mid.core.live r refl told once.hears once.heeds in
+    let asked = cores.reads x.answer old.core.live.feed once.feed once.reads in
+    let heeded = heeds old.core.facts x.answer x.heard old.core.live (live_with once.feed old.core.live) h.mid.core.live r refl asked once.hears once.heeds in
     let parcels : h.mid.parcels ≡ old.parcels = ap (λ (z : RecordNow). z.parcels) h.once.only in
     let facts : h.mid.core.facts ≡ old.core.facts = ap (λ (c : CoreNow). c.facts) once.only in
     ends_read (fault_read x) x.heard now old h.mid new
     (record {
-      amount = no_less old h.mid heeded.granted (ap all_granted parcels);
+      amount = no_less old h.mid heeded.granted (grant_alike old h.mid parcels);
       right = subst (λ (f : SideFacts). IsHeldRightly f h.mid.core.live) (sym facts) heeded.right;
     })
     heeded.granted h.ends
@@ -275,68 +297,69 @@ asks_idle c e = by_feed c.live.feed e
     by_feed (Some v) e = connecting c.live.session.phase (rows _ _ _ _ (chosen (is_framing v.reading && is_empty v.composed) (first_that_holds (text_rows v c) None) e))
     by_feed None e = absurd (cc e)
 
-left_told : (x y : Option FeedNow) → leaving.IsLeft x y → is_granted_on y ≡ is_granted_on x
-left_told (Some v) (Some w) h = ap is_granted_in h.1
-left_told (Some v) None h = absurd h
-left_told None y h = absurd h
+left_asked : (x y : Option FeedNow) → leaving.IsLeft x y → is_some (asked_on x) ≡ true → is_some (asked_on y) ≡ true
+left_asked (Some v) (Some w) h e = ap (λ (r : Reading). is_some (asked_in r)) h.1 ∙ e
+left_asked (Some v) None h e = absurd h
+left_asked None y h e = absurd h
 
-composes_as : (t : CoreText) (x : Composed) (old new : RecordNow) → HoldsRightly old → x ≢ composed.NoMemory → (t ≡ text.Ask → is_ready old.core.live ≡ false) → is_granted_on new.core.live.feed ≡ is_granted_on old.core.live.feed →
-    ComposesAs t x old new → Less 0 old new
-composes_as text.Ask (composed.Asked ident n) old new r k idle told h =
+composes_as : (t : CoreText) (x : Composed) (old new : RecordNow) → HoldsRightly old → x ≢ composed.NoMemory → (t ≡ text.Ask → is_ready old.core.live ≡ false) →
+    (is_some (asked_on old.core.live.feed) ≡ true → is_some (asked_on new.core.live.feed) ≡ true) →
+    ComposesAs t x old new → Less nothing old new
+composes_as text.Ask (composed.Asked ident n) old new r k idle asked h =
     let granted : new.core.live.granted ≡ old.core.live.granted = ap (λ (c : CoreNow). c.live.granted) h.1.only in
     record {
-      amount = no_less old new granted (ap (λ (z : RecordNow). all_granted z.parcels) h.2);
-      right = cores.none_right new.core.facts new.core.live (granted ∙ cores.idle old.core.facts old.core.live r (idle refl));
+      amount = no_less old new granted (grant_alike old new (ap (λ (z : RecordNow). z.parcels) h.2));
+      right = cores.none_right new.core.facts new.core.live (subst HoldsNothing (sym granted) (cores.idle old.core.facts old.core.live r (idle refl)));
     }
-composes_as text.Ask composed.Spent old new r k idle told h = like old new r (record {
+composes_as text.Ask composed.Spent old new r k idle asked h = like old new r (record {
   facts = ap (λ (c : CoreNow). c.facts) h.1.1;
   granted = ap (λ (c : CoreNow). c.live.granted) h.1.1;
   session = ap (λ (c : CoreNow). c.live.session) h.1.1;
-  told = told;
+  asked = asked;
   parcels = ap (λ (z : RecordNow). z.parcels) h.2;
 })
-composes_as text.Ask (composed.Again seen now) old new r k idle told h = like old new r (record {
+composes_as text.Ask (composed.Again seen now) old new r k idle asked h = like old new r (record {
   facts = ap (λ (c : CoreNow). c.facts) h.1.1;
   granted = ap (λ (c : CoreNow). c.live.granted) h.1.1;
   session = ap (λ (c : CoreNow). c.live.session) h.1.1;
-  told = told;
+  asked = asked;
   parcels = ap (λ (z : RecordNow). z.parcels) h.2;
 })
-composes_as text.KeepaliveAnswer composed.Answered old new r k idle told h = like old new r (record {
+composes_as text.KeepaliveAnswer composed.Answered old new r k idle asked h = like old new r (record {
   facts = ap (λ (c : CoreNow). c.facts) h.0.only;
   granted = ap (λ (c : CoreNow). c.live.granted) h.0.only;
   session = ap (λ (c : CoreNow). c.live.session) h.0.only;
-  told = told;
+  asked = asked;
   parcels = ap (λ (z : RecordNow). z.parcels) h.1;
 })
-composes_as text.Message (composed.Numbered n) old new r k idle told h = like old new r (record {
+composes_as text.Message (composed.Numbered n) old new r k idle asked h = like old new r (record {
   facts = ap (λ (c : CoreNow). c.facts) h.0.only;
   granted = ap (λ (c : CoreNow). c.live.granted) h.0.only;
   session = ap (λ (c : CoreNow). c.live.session) h.0.only;
-  told = told;
+  asked = asked;
   parcels = ap (λ (z : RecordNow). z.parcels) h.1;
 })
-composes_as text.Acknowledgement composed.Acknowledged old new r k idle told h = like old new r (record {
+composes_as text.Acknowledgement composed.Acknowledged old new r k idle asked h = like old new r (record {
   facts = ap (λ (c : CoreNow). c.facts) h.0.only;
   granted = ap (λ (c : CoreNow). c.live.granted) h.0.only;
   session = ap (λ (c : CoreNow). c.live.session) h.0.only;
-  told = told;
+  asked = asked;
   parcels = ap (λ (z : RecordNow). z.parcels) h.1;
 })
-composes_as text.Ask composed.NoMemory old new r k idle told h = absurd (k refl)
-composes_as text.KeepaliveAnswer composed.NoMemory old new r k idle told h = absurd (k refl)
-composes_as text.Message composed.NoMemory old new r k idle told h = absurd (k refl)
-composes_as text.Acknowledgement composed.NoMemory old new r k idle told h = absurd (k refl)
-composes_as t x old new r k idle told h = absurd h
+composes_as text.Ask composed.NoMemory old new r k idle asked h = absurd (k refl)
+composes_as text.KeepaliveAnswer composed.NoMemory old new r k idle asked h = absurd (k refl)
+composes_as text.Message composed.NoMemory old new r k idle asked h = absurd (k refl)
+composes_as text.Acknowledgement composed.NoMemory old new r k idle asked h = absurd (k refl)
+composes_as t x old new r k idle asked h = absurd h
 
 -- ---- the front
 
-shakes : (a : HalfStep) (old new : RecordNow) → HoldsRightly old → Shakes a old new → Less 0 old new
+shakes : (a : HalfStep) (old new : RecordNow) → HoldsRightly old → Shakes a old new → Less nothing old new
 shakes a old new r (h, only) = like old new r (record {
   facts = ap (λ (c : CoreNow). c.facts) h.only;
   granted = ap (λ (c : CoreNow). c.live.granted) h.only;
   session = ap (λ (c : CoreNow). c.live.session) h.only;
-  told = cores.greets a old.core.live.feed new.core.live.feed h.greets;
+  asked = cores.greets a old.core.live.feed new.core.live.feed h.greets;
   parcels = ap (λ (z : RecordNow). z.parcels) only;
 })
 
@@ -344,17 +367,17 @@ shakes_granted : (a : HalfStep) (old new : RecordNow) → Shakes a old new → n
 shakes_granted a old new (h, only) = ap (λ (c : CoreNow). c.live.granted) h.only
 
 -- what is passed, what is accepted and what is said of a reset
-next_passed : (t : Throttled) (f : FrontHeard) (c new : CoreNow) → IsNext t next.Passed f c new → new.live.granted ≡ None
+next_passed : (t : Throttled) (f : FrontHeard) (c new : CoreNow) → IsNext t next.Passed f c new → new.live.granted ≡ nothing_held c.live.granted.peer
 next_passed t (front.tells said.Nothing) c new h = ap (λ (z : CoreNow). z.live.granted) h.only
 next_passed t (front.tells (said.Stamp k)) c new h = ap (λ (z : CoreNow). z.live.granted) h.only
 next_passed t f c new h = absurd h
 
 record Hands (a : CoreAccepted) (c new : CoreNow) : Type 0 where
-  pub held : c.live.granted ≡ Some a.grant
-  pub none : new.live.granted ≡ None
+  pub held : c.live.granted ≡ a.grants
+  pub none : new.live.granted ≡ nothing_held c.live.granted.peer
 
 next_accepted : (t : Throttled) (a : CoreAccepted) (f : FrontHeard) (c new : CoreNow) → IsNext t (next.Accepted a) f c new → Hands a c new
-next_accepted t a (front.tells (said.Brings n)) c new h = record { held = h.1.grant; none = ap (λ (z : CoreNow). z.live.granted) h.1.only }
+next_accepted t a (front.tells (said.Brings n)) c new h = record { held = h.1.grants; none = ap (λ (z : CoreNow). z.live.granted) h.1.only }
 next_accepted t a f c new h = absurd h
 
 next_resets : (t : Throttled) (full : Bool) (f : FrontHeard) (c new : CoreNow) → IsNext t (next.Resets full) f c new → IsResetHeard full c
@@ -365,14 +388,27 @@ next_acked : (t : Throttled) (n : ℕ) (f : FrontHeard) (c new : CoreNow) → Is
 next_acked t n (front.tells (said.Acknowledges m)) c new h = (m, h.1)
 next_acked t n f c new h = absurd h
 
-record IsAsked (t : Throttled) (c : CoreNow) (r : Reading) (new : CoreNow) : Type 0 where
-  pub size : ℕ
+-- a size was asked for there
+record IsAsked (c : CoreNow) (r : Reading) (g : More) (new : CoreNow) : Type 0 where
   pub asks : cores.AsksSize c r
-  pub only : new ≡ record c { live = after_granted t.throttle.place size c.live }
+  pub only : new ≡ record c { live = after_asked g new.live.granted c.live }
 
-next_granted : (t : Throttled) (f : FrontHeard) (c : CoreNow) (r : Reading) (new : CoreNow) → heard_by c r ≡ f → IsNext t next.Granted f c new → IsAsked t c r new
-next_granted t (front.asks n) c r new e h = record { size = n; asks = cores.asks_size c r n e; only = h.1.only }
-next_granted t f c r new e h = absurd h
+abbrev asked_answer : CoreNext → Option More
+asked_answer next.Granted = Some more.Whole
+asked_answer (next.Full stage out) = Some (more.Full stage out)
+asked_answer (next.Again stage seen now) = Some (more.Again stage seen now)
+asked_answer _ = None
+
+next_asked : (t : Throttled) (a : CoreNext) (g : More) (f : FrontHeard) (c : CoreNow) (r : Reading) (new : CoreNow) → asked_answer a ≡ Some g → heard_by c r ≡ f → IsNext t a f c new → IsAsked c r g new
+next_asked t next.Granted g (front.asks n) c r new is e h = record { asks = cores.asks_size c r n e; only = subst (λ (x : More). new ≡ record c { live = after_asked x new.live.granted c.live }) (some_same more.Whole g is) h.only }
+next_asked t (next.Full stage out) g (front.asks n) c r new is e h =
+    record { asks = cores.asks_size c r n e; only = subst (λ (x : More). new ≡ record c { live = after_asked x new.live.granted c.live }) (some_same (more.Full stage out) g is) h.only }
+next_asked t (next.Again stage seen now) g (front.asks n) c r new is e h =
+    record { asks = cores.asks_size c r n e; only = subst (λ (x : More). new ≡ record c { live = after_asked x new.live.granted c.live }) (some_same (more.Again stage seen now) g is) h.only }
+next_asked t next.Granted g f c r new is e h = absurd h
+next_asked t (next.Full stage out) g f c r new is e h = absurd h
+next_asked t (next.Again stage seen now) g f c r new is e h = absurd h
+next_asked t a g f c r new is e h = absurd (cc is)
 
 -- of the feed that there is
 at_front : (t : Throttled) (a : CoreNext) (c new : CoreNow) → AnswersFront t a c new → (v : FeedNow) × (c.live.feed ≡ Some v) × IsNext t a (heard_by c v.reading) c new
@@ -382,209 +418,245 @@ at_front t a c new h = by_feed c.live.feed h
     by_feed (Some v) h = (v, refl, h)
     by_feed None h = absurd h
 
--- a size is granted where nothing was held
-record Grants (c new : CoreNow) : Type 0 where
-  pub none : c.live.granted ≡ None
-  pub right : IsHeldRightly new.facts new.live
+-- what is held then is held rightly
+asked_right : (g : More) (c : CoreNow) (v : FeedNow) → SessionIsSound c.facts c.live.session → c.live.feed ≡ Some v → cores.AsksSize c v.reading → (k : PeerGrants) → IsHeldRightly c.facts (after_asked g k c.live)
+asked_right more.Whole c v sound fed asks k = inr (record {
+  ready = asks.ready;
+  asked = ap (λ (x : Option FeedNow). is_some (asked_on (granted_feed x))) fed ∙ ap is_some asks.telling ∙ asks.asked;
+  session = sound;
+})
+asked_right (more.Full stage out) c v sound fed asks k = inr (record { ready = asks.ready; asked = ap (λ (x : Option FeedNow). is_some (asked_on x)) fed ∙ asks.asked; session = sound })
+asked_right (more.Again stage seen now) c v sound fed asks k = inr (record { ready = asks.ready; asked = ap (λ (x : Option FeedNow). is_some (asked_on x)) fed ∙ asks.asked; session = sound })
 
-granted_now : (t : Throttled) (c new : CoreNow) → SessionIsSound c.facts c.live.session → IsHeldRightly c.facts c.live → AnswersFront t next.Granted c new → Grants c new
-granted_now t c new sound r h =
-    let (v, fed, is) = at_front t next.Granted c new h in
-    let asked = next_granted t (heard_by c v.reading) c v.reading new refl is in
-    record {
-      none = cores.untold c.facts c.live r (ap is_granted_on fed ∙ asked.asks.untold);
-      right = subst (λ (z : CoreNow). IsHeldRightly z.facts z.live) (sym asked.only) (record {
-        ready = asked.asks.ready;
-        told = ap (λ (x : Option FeedNow). is_granted_on (granted_feed x)) fed ∙ asked.asks.telling;
-        session = sound;
-      });
-    }
+asked_now : (t : Throttled) (a : CoreNext) (g : More) (c new : CoreNow) → asked_answer a ≡ Some g → SessionIsSound c.facts c.live.session → AnswersFront t a c new → IsHeldRightly new.facts new.live
+asked_now t a g c new is sound h =
+    let (v, fed, answers) = at_front t a c new h in
+    let asked = next_asked t a g (heard_by c v.reading) c v.reading new is refl answers in
+    subst (λ (z : CoreNow). IsHeldRightly z.facts z.live) (sym asked.only) (asked_right g c v sound fed asked.asks new.live.granted)
 
--- the word goes along with what is held, rightly
-pub record Goes (before behind : ℕ) (old new : RecordNow) : Type 0 where
-  pub word : Follows before behind (held_in_record old) (held_in_record new)
+-- ---- words beside what is held
+
+-- each word goes along with what is held at its gate, rightly
+pub record Goes (t : Throttled) (old new : RecordNow) : Type 0 where
+  pub word : (gate : Gate) → Follows (words t.before gate) (words t.behind gate) (held_in_record gate old) (held_in_record gate new)
   pub right : HoldsRightly new
 
-by_less : (n before behind : ℕ) (old new : RecordNow) → behind ≡ before - n → Less n old new → Goes before behind old new
-by_less n before behind old new w h = record { word = sums.given n before behind (held_in_record old) (held_in_record new) w h.amount; right = h.right }
+by_less : (n : Gate → ℕ) (t : Throttled) (old new : RecordNow) → AreAlone (places t.throttles) → Return n t.throttles t.before t.behind → Less n old new → Goes t old new
+by_less n t old new alone w h = record {
+  word = λ gate. sums.given (n gate) (words t.before gate) (words t.behind gate) (held_in_record gate old) (held_in_record gate new) (w gate (alone gate)) (h.amount gate);
+  right = h.right;
+}
 
-by_none : (before behind : ℕ) (old new : RecordNow) → behind ≡ before → Less 0 old new → Goes before behind old new
-by_none before behind old new w h = by_less 0 before behind old new (omega (arith, w)) h
+by_none : (t : Throttled) (old new : RecordNow) → AreAlone (places t.throttles) → Stay t.throttles t.before t.behind → Less nothing old new → Goes t old new
+by_none t old new alone w h = by_less nothing t old new alone (λ gate a. (let e = w gate a in omega (arith, e))) h
 
-frames_granted : (t : Throttled) (w u : ℕ) (old new : RecordNow) → SessionIsSound old.core.facts old.core.live.session → HoldsRightly old → u ≡ w + live.held new.core.live.granted →
-    AnswersFront t next.Granted old.core new.core → all_granted new.parcels ≡ all_granted old.parcels → Goes w u old new
-frames_granted t w u old new sound r e h p =
-    let g = granted_now t old.core new.core sound r h in
-    let none = ap live.held g.none in
-    record { word = sums.taken (live.held new.core.live.granted) w u (held_in_record old) (held_in_record new) e (omega (arith, none, p)); right = g.right }
+-- where the passes are as they were
+pub same_words : (before behind : TakePasses) (gate : Gate) → behind ≡ before → words behind gate ≡ words before gate
+same_words before behind gate e = ap (λ (p : TakePasses). words p gate) e
 
-accepts_one : (t : Throttled) (number now : ℕ) (old new : RecordNow) → Frames t (framed.Accepted number) now old new → Less 0 old new
+stay_so : (t : Throttled) → t.behind ≡ t.before → Stay t.throttles t.before t.behind
+stay_so t e gate alone = same_words t.before t.behind gate e
+
+frames_asked : (t : Throttled) (a : CoreNext) (g : More) (old new : RecordNow) → asked_answer a ≡ Some g → AreAlone (places t.throttles) → SessionIsSound old.core.facts old.core.live.session →
+    Keep (held old.core.live.granted) (held new.core.live.granted) t.throttles t.before t.behind → AnswersFront t a old.core new.core → GrantAlike old new → Goes t old new
+frames_asked t a g old new is alone sound k h p = record {
+  word = λ gate. sums.kept (held old.core.live.granted gate) (held new.core.live.granted gate) (words t.before gate) (words t.behind gate) (held_in_record gate old) (held_in_record gate new)
+      (k gate (alone gate)) (let q = p gate in omega (arith, q));
+  right = asked_now t a g old.core new.core is sound h;
+}
+
+accepts_one : (t : Throttled) (number now : ℕ) (old new : RecordNow) → Frames t (framed.Accepted number) now old new → Less nothing old new
 accepts_one t number now old new (a, is, h, only) =
     let (v, fed, answers) = at_front t (next.Accepted a) old.core new.core h in
     let hands = next_accepted t a (heard_by old.core v.reading) old.core new.core answers in
-    let was = ap live.held hands.held in
-    let now_held = ap live.held hands.none in
-    let all = ap (λ (z : RecordNow). all_granted z.parcels) only in
-    let more = sums.granted_behind old.parcels (letter_of old.place a ∷ []) in
-    record { amount = omega (arith, was, now_held, all, more); right = cores.none_right new.core.facts new.core.live hands.none }
+    record {
+      amount = λ gate. (
+          let was = ap (λ (x : PeerGrants). held x gate) hands.held in
+          let now_held = ap (λ (x : PeerGrants). held x gate) hands.none ∙ nothing_at old.core.live.granted.peer gate in
+          let all = ap (λ (z : RecordNow). all_granted z.parcels gate) only in
+          let more = sums.granted_behind gate old.parcels (letter_of old.place a ∷ []) in
+          omega (arith, was, now_held, all, more)
+          );
+      right = cores.none_right new.core.facts new.core.live (cores.none_of new.core.live.granted old.core.live.granted.peer hands.none);
+    }
 
-obeys : (t : Throttled) (full : Bool) (now : ℕ) (old new : RecordNow) → HoldsRightly old → Frames t (framed.Obeyed full) now old new → Less 0 old new
+obeys : (t : Throttled) (full : Bool) (now : ℕ) (old new : RecordNow) → HoldsRightly old → Frames t (framed.Obeyed full) now old new → Less nothing old new
 obeys t full now old new r (mid, (h, room), (o, only)) =
     let (v, fed, answers) = at_front t (next.Resets full) old.core mid.core h in
     let heard = next_resets t full (heard_by old.core v.reading) old.core mid.core answers in
-    let none : old.core.live.granted ≡ None = cores.idle old.core.facts old.core.live r (cores.heard_idle (read.Got 0) old.core.facts old.core.live (answer.Reset full) heard) in
-    let mid_none : mid.core.live.granted ≡ None = ap (λ (z : RecordNow). z.core.live.granted) room ∙ none in
-    let new_none : new.core.live.granted ≡ None = ap (λ (l : LiveNow). l.granted) o.obeys.live ∙ cores.none_still (event.GotReset full) (live_with o.obeys.passed mid.core.live) mid_none in
-    let parcels : all_granted new.parcels ≡ all_granted old.parcels =
-    ap (λ (z : RecordNow). all_granted z.parcels) only ∙ sums.told_behind mid.parcels mid.place full full ∙ ap (λ (z : RecordNow). all_granted z.parcels) room in
-    record { amount = no_less old new (new_none ∙ sym none) parcels; right = cores.none_right new.core.facts new.core.live new_none }
+    let none : HoldsNothing old.core.live.granted = cores.idle old.core.facts old.core.live r (cores.heard_idle (read.Got 0) old.core.facts old.core.live (answer.Reset full) heard) in
+    let mid_same : mid.core.live.granted ≡ old.core.live.granted = ap (λ (z : RecordNow). z.core.live.granted) room in
+    let mid_none : HoldsNothing mid.core.live.granted = subst HoldsNothing (sym mid_same) none in
+    let same : new.core.live.granted ≡ old.core.live.granted =
+    ap (λ (l : LiveNow). l.granted) o.obeys.live ∙ cores.none_still (event.GotReset full) (live_with o.obeys.passed mid.core.live) mid_none ∙ mid_same in
+    let parcels : GrantAlike old new =
+    λ gate. ap (λ (z : RecordNow). all_granted z.parcels gate) only ∙ sums.told_behind gate mid.parcels mid.place full full ∙ ap (λ (z : RecordNow). all_granted z.parcels gate) room in
+    record { amount = no_less old new same parcels; right = cores.none_right new.core.facts new.core.live (subst HoldsNothing (sym same) none) }
 
-passes : (t : Throttled) (old new : RecordNow) → AnswersFront t next.Passed old.core new.core → all_granted new.parcels ≡ all_granted old.parcels → Less (live.held old.core.live.granted) old new
-passes t old new h p = let (v, fed, answers) = at_front t next.Passed old.core new.core h in drops old new (next_passed t (heard_by old.core v.reading) old.core new.core answers) p
+passes : (t : Throttled) (old new : RecordNow) → AnswersFront t next.Passed old.core new.core → GrantAlike old new → Less (held old.core.live.granted) old new
+passes t old new h p =
+    let (v, fed, answers) = at_front t next.Passed old.core new.core h in
+    drops old new old.core.live.granted.peer (next_passed t (heard_by old.core v.reading) old.core new.core answers) p
 
-acks : (t : Throttled) (n : ℕ) (old new : RecordNow) → HoldsRightly old → AnswersFront t (next.Acked n) old.core new.core → new.parcels ≡ old.parcels → Less 0 old new
-acks t n old new r h p = let (v, fed, answers) = at_front t (next.Acked n) old.core new.core h in let (m, counted) = next_acked t n (heard_by old.core v.reading) old.core new.core answers in counts (Some m) old new r counted p
+acks : (t : Throttled) (n : ℕ) (old new : RecordNow) → HoldsRightly old → AnswersFront t (next.Acked n) old.core new.core → new.parcels ≡ old.parcels → Less nothing old new
+acks t n old new r h p =
+    let (v, fed, answers) = at_front t (next.Acked n) old.core new.core h in
+    let (m, counted) = next_acked t n (heard_by old.core v.reading) old.core new.core answers in
+    counts (Some m) old new r counted p
 
-faults : (e : _) (now : ℕ) (old new : RecordNow) → HoldsRightly old → Greets (half.Fault e) now old new → Less (live.held old.core.live.granted) old new
+faults : (e : _) (now : ℕ) (old new : RecordNow) → HoldsRightly old → Greets (half.Fault e) now old new → Less (held old.core.live.granted) old new
 faults e now old new r (mid, h, g) =
-    less_by (live.held mid.core.live.granted) (live.held old.core.live.granted) old new (ap live.held (shakes_granted (half.Fault e) old mid h))
-    (then_less (live.held mid.core.live.granted) old mid new (shakes (half.Fault e) old mid r h) (breaks now mid new g))
+    less_held mid.core.live.granted old.core.live.granted old new (shakes_granted (half.Fault e) old mid h)
+    (then_less (held mid.core.live.granted) old mid new (shakes (half.Fault e) old mid r h) (breaks now mid new g))
 
-pub frames : (t : Throttled) (f : Framed) (now w u : ℕ) (old new : RecordNow) → SessionIsSound old.core.facts old.core.live.session → HoldsRightly old →
-    u ≡ word_framed f w (live.held old.core.live.granted) (live.held new.core.live.granted) → Frames t f now old new → Goes w u old new
-frames t (framed.Half half.NotYet) now w u old new sound r e h = by_none w u old new e (shakes half.NotYet old new r h)
-frames t (framed.Half half.Wrote) now w u old new sound r e h = by_none w u old new e (shakes half.Wrote old new r h)
-frames t (framed.Half half.Authed) now w u old new sound r e h = by_none w u old new e (shakes half.Authed old new r h)
-frames t (framed.Half half.NoMemory) now w u old new sound r e h = by_none w u old new e (shakes half.NoMemory old new r h)
-frames t (framed.Half (half.Fault why)) now w u old new sound r e h = by_less (live.held old.core.live.granted) w u old new e (faults why now old new r h)
-frames t framed.Passed now w u old new sound r e (h, only) = by_less (live.held old.core.live.granted) w u old new e (passes t old new h (ap (λ (z : RecordNow). all_granted z.parcels) only))
-frames t framed.Granted now w u old new sound r e (h, only) = frames_granted t w u old new sound r e h (ap (λ (z : RecordNow). all_granted z.parcels) only)
-frames t (framed.Acked n) now w u old new sound r e (h, only) = by_none w u old new e (acks t n old new r h (ap (λ (z : RecordNow). z.parcels) only))
-frames t (framed.Accepted n) now w u old new sound r e h = by_none w u old new e (accepts_one t n now old new h)
-frames t (framed.Obeyed full) now w u old new sound r e h = by_none w u old new e (obeys t full now old new r h)
-frames t (framed.Faulted cause) now w u old new sound r e (h, broken) = by_less (live.held old.core.live.granted) w u old new e (breaks now old new broken)
-frames t (framed.Full out) now w u old new sound r e (h, room) = by_none w u old new e (same_but_room old new r room)
-frames t (framed.Again seen at) now w u old new sound r e (h, room) = by_none w u old new e (same_but_room old new r room)
-frames t framed.NoMemory now w u old new sound r e (h, room) = by_none w u old new e (same_but_room old new r room)
+parcels_alike : (old new x : RecordNow) → new ≡ x → x.parcels ≡ old.parcels → GrantAlike old new
+parcels_alike old new x e p = grant_alike old new (ap (λ (z : RecordNow). z.parcels) e ∙ p)
+
+pub frames : (t : Throttled) (f : Framed) (now : ℕ) (old new : RecordNow) → AreAlone (places t.throttles) → SessionIsSound old.core.facts old.core.live.session → HoldsRightly old →
+    WordsFramed f t (held old.core.live.granted) (held new.core.live.granted) → Frames t f now old new → Goes t old new
+frames t (framed.Half half.NotYet) now old new alone sound r e h = by_none t old new alone e (shakes half.NotYet old new r h)
+frames t (framed.Half half.Wrote) now old new alone sound r e h = by_none t old new alone e (shakes half.Wrote old new r h)
+frames t (framed.Half half.Authed) now old new alone sound r e h = by_none t old new alone e (shakes half.Authed old new r h)
+frames t (framed.Half half.NoMemory) now old new alone sound r e h = by_none t old new alone e (shakes half.NoMemory old new r h)
+frames t (framed.Half (half.Fault why)) now old new alone sound r e h = by_less (held old.core.live.granted) t old new alone e (faults why now old new r h)
+frames t framed.Passed now old new alone sound r e (h, only) = by_less (held old.core.live.granted) t old new alone e (passes t old new h (parcels_alike old new _ only refl))
+frames t framed.Granted now old new alone sound r e (h, only) = frames_asked t next.Granted more.Whole old new refl alone sound e h (parcels_alike old new _ only refl)
+frames t (framed.Acked n) now old new alone sound r e (h, only) = by_none t old new alone e (acks t n old new r h (ap (λ (z : RecordNow). z.parcels) only))
+frames t (framed.Accepted n) now old new alone sound r e h = by_none t old new alone e (accepts_one t n now old new h)
+frames t (framed.Obeyed full) now old new alone sound r e h = by_none t old new alone e (obeys t full now old new r h)
+frames t (framed.Faulted cause) now old new alone sound r e (h, broken) = by_less (held old.core.live.granted) t old new alone e (breaks now old new broken)
+frames t (framed.Full stage out) now old new alone sound r e (h, only) = frames_asked t (next.Full stage out) (more.Full stage out) old new refl alone sound e h (parcels_alike old new _ only refl)
+frames t (framed.Again stage seen at) now old new alone sound r e (h, only) = frames_asked t (next.Again stage seen at) (more.Again stage seen at) old new refl alone sound e h (parcels_alike old new _ only refl)
+frames t framed.NoMemory now old new alone sound r e (h, room) = by_none t old new alone e (same_but_room old new r room)
 
 -- ---- a step
 
 -- what was granted for a parcel that is handed out
-abbrev pub handed_by : Stepped → ℕ
-handed_by (stepped.Hand x) = granted_in x
-handed_by answer = 0
+abbrev pub handed_by : Stepped → Gate → ℕ
+handed_by (stepped.Hand x) gate = granted_in x gate
+handed_by answer gate = 0
 
-planned_none : (a : Result (Unit {0}) memory.NoMemory) → handed_by (answer_planned a) ≡ 0
-planned_none (Ok u) = refl
-planned_none (Err e) = refl
+planned_none : (a : Result (Unit {0}) memory.NoMemory) (gate : Gate) → handed_by (answer_planned a) gate ≡ 0
+planned_none (Ok u) gate = refl
+planned_none (Err e) gate = refl
 
-put_none : (a : FeedWrite) → handed_by (answer_put a) ≡ 0
-put_none (put.Put n b) = refl
-put_none put.NotYet = refl
-put_none put.Failed = refl
-put_none put.NoMemory = refl
+put_none : (a : FeedWrite) (gate : Gate) → handed_by (answer_put a) gate ≡ 0
+put_none (put.Put n b) gate = refl
+put_none put.NotYet gate = refl
+put_none put.Failed gate = refl
+put_none put.NoMemory gate = refl
 
-framed_none : (f : Framed) → handed_by (answer_framed f) ≡ 0
-framed_none (framed.Half half.NotYet) = refl
-framed_none (framed.Half half.Wrote) = refl
-framed_none (framed.Half half.Authed) = refl
-framed_none (framed.Half half.NoMemory) = refl
-framed_none (framed.Half (half.Fault e)) = refl
-framed_none framed.Passed = refl
-framed_none framed.Granted = refl
-framed_none (framed.Acked n) = refl
-framed_none (framed.Accepted n) = refl
-framed_none (framed.Obeyed full) = refl
-framed_none (framed.Faulted cause) = refl
-framed_none (framed.Full out) = refl
-framed_none (framed.Again seen at) = refl
-framed_none framed.NoMemory = refl
+framed_none : (f : Framed) (gate : Gate) → handed_by (answer_framed f) gate ≡ 0
+framed_none (framed.Half half.NotYet) gate = refl
+framed_none (framed.Half half.Wrote) gate = refl
+framed_none (framed.Half half.Authed) gate = refl
+framed_none (framed.Half half.NoMemory) gate = refl
+framed_none (framed.Half (half.Fault e)) gate = refl
+framed_none framed.Passed gate = refl
+framed_none framed.Granted gate = refl
+framed_none (framed.Acked n) gate = refl
+framed_none (framed.Accepted n) gate = refl
+framed_none (framed.Obeyed full) gate = refl
+framed_none (framed.Faulted cause) gate = refl
+framed_none (framed.Full stage out) gate = refl
+framed_none (framed.Again stage seen at) gate = refl
+framed_none framed.NoMemory gate = refl
 
-composed_none : (c : Composed) → handed_by (answer_composed c) ≡ 0
-composed_none (composed.Asked ident n) = refl
-composed_none composed.Answered = refl
-composed_none (composed.Numbered n) = refl
-composed_none composed.Acknowledged = refl
-composed_none composed.Spent = refl
-composed_none (composed.Again seen now) = refl
-composed_none composed.NoMemory = refl
+composed_none : (c : Composed) (gate : Gate) → handed_by (answer_composed c) gate ≡ 0
+composed_none (composed.Asked ident n) gate = refl
+composed_none composed.Answered gate = refl
+composed_none (composed.Numbered n) gate = refl
+composed_none composed.Acknowledged gate = refl
+composed_none composed.Spent gate = refl
+composed_none (composed.Again seen now) gate = refl
+composed_none composed.NoMemory gate = refl
 
-heard_none : (h : Option Heard) → handed_by (answer_heard h) ≡ 0
-heard_none (Some answer.Wait) = refl
-heard_none (Some (answer.ServerIdent cookie global)) = refl
-heard_none (Some (answer.ReconnectOk seen)) = refl
-heard_none (Some (answer.Retry n)) = refl
-heard_none (Some (answer.RetryGlobal n)) = refl
-heard_none (Some (answer.Reset full)) = refl
-heard_none (Some (answer.Refused e)) = refl
-heard_none None = refl
+heard_none : (h : Option Heard) (gate : Gate) → handed_by (answer_heard h) gate ≡ 0
+heard_none (Some answer.Wait) gate = refl
+heard_none (Some (answer.ServerIdent cookie global)) gate = refl
+heard_none (Some (answer.ReconnectOk seen)) gate = refl
+heard_none (Some (answer.Retry n)) gate = refl
+heard_none (Some (answer.RetryGlobal n)) gate = refl
+heard_none (Some (answer.Reset full)) gate = refl
+heard_none (Some (answer.Refused e)) gate = refl
+heard_none None gate = refl
 
-by_none_read : (a : EndRead) (h : Option Heard) → handed_by (answer_by a h) ≡ 0
-by_none_read (read.Got n) h = heard_none h
-by_none_read read.NotYet h = refl
-by_none_read read.Ended h = refl
-by_none_read read.Failed h = refl
-by_none_read read.NoMemory h = refl
+by_none_read : (a : EndRead) (h : Option Heard) (gate : Gate) → handed_by (answer_by a h) gate ≡ 0
+by_none_read (read.Got n) h gate = heard_none h gate
+by_none_read read.NotYet h gate = refl
+by_none_read read.Ended h gate = refl
+by_none_read read.Failed h gate = refl
+by_none_read read.NoMemory h gate = refl
 
-read_none : (f : Option WireFault) (a : EndRead) (h : Option Heard) → handed_by (faulted_or f (answer_by a h)) ≡ 0
-read_none (Some f) a h = refl
-read_none None a h = by_none_read a h
+read_none : (f : Option WireFault) (a : EndRead) (h : Option Heard) (gate : Gate) → handed_by (faulted_or f (answer_by a h)) gate ≡ 0
+read_none (Some f) a h gate = refl
+read_none None a h gate = by_none_read a h gate
 
--- The word goes along with what the record holds and with what was granted for the parcel that the step hands out.
+-- Each word goes along with what the record holds at its gate and with what was granted there for the parcel that the step hands out.
 pub record Steps (w : Worked) (old new : RecordNow) : Type 0 where
-  pub word : Follows w.bytes.before.word w.bytes.behind.word (held_in_record old) (held_in_record new + handed_by w.answer)
+  pub word : (gate : Gate) → Follows (words w.bytes.before gate) (words w.bytes.behind gate) (held_in_record gate old) (held_in_record gate new + handed_by w.answer gate)
   pub right : HoldsRightly new
 
-by_goes : (w : Worked) (old new : RecordNow) → handed_by w.answer ≡ 0 → Goes w.bytes.before.word w.bytes.behind.word old new → Steps w old new
-by_goes w old new none g = record {
-  word = λ rest e. (let is = g.word rest e in omega (arith, is, none));
+by_goes : (w : Worked) (old new : RecordNow) (a : Stepped) → w.answer ≡ a → ((gate : Gate) → handed_by a gate ≡ 0) → Goes w.bytes old new → Steps w old new
+by_goes w old new a is none g = record {
+  word = λ gate rest e. (
+      let follows = g.word gate rest e in
+      let zero = ap (λ (x : Stepped). handed_by x gate) is ∙ none gate in
+      omega (arith, follows, zero)
+      );
   right = g.right;
 }
 
-by_due : (d : Due) (w : Worked) (old new : RecordNow) → IsAlone w.bytes.throttle.place → SessionIsSound old.core.facts old.core.live.session → HoldsRightly old → w.answer ≢ stepped.NoMemory →
+by_due : (d : Due) (w : Worked) (old new : RecordNow) → AreAlone (places w.bytes.throttles) → SessionIsSound old.core.facts old.core.live.session → HoldsRightly old → w.answer ≢ stepped.NoMemory →
     (d ≡ due.Compose → is_some (to_compose old.core) ≡ true) → StepsBy d w old new → Steps w old new
 by_due due.Nothing w old new alone sound r k some h =
-    by_goes w old new (ap handed_by h.answers) (by_none w.bytes.before.word w.bytes.behind.word old new (ap (λ p. p.word) h.bytes) (by (Less 0 old) new _ h.only (record { amount = omega arith; right = r })))
+    by_goes w old new _ h.answers (λ gate. refl) (by_none w.bytes old new alone (stay_so w.bytes h.bytes) (by (Less nothing old) new _ h.only (record { amount = λ gate. omega arith; right = r })))
 by_due due.Plan w old new alone sound r k some h =
-    by_goes w old new (ap handed_by h.answers ∙ planned_none h.taken)
-    (by_less (returned_planned (next_step old) old) w.bytes.before.word w.bytes.behind.word old new (h.bytes alone) (plans (next_step old) h.taken w.now old new r h.plans))
-by_due due.Hand w old new alone sound r k some h = handed w.answer h.hands (ap (λ p. p.word) h.bytes)
+    by_goes w old new _ h.answers (planned_none h.taken) (by_less (returned_planned (next_step old) old) w.bytes old new alone h.bytes (plans (next_step old) h.taken w.now old new r h.plans))
+by_due due.Hand w old new alone sound r k some h = handed w.answer h.hands
   where
-    handed : (a : Stepped) → HandsAs a old new → w.bytes.behind.word ≡ w.bytes.before.word → Steps (record w { answer = a }) old new
-    handed (stepped.Hand x) h word = (let less = hands x old new r h in record {
-      word = λ rest e. (let amount = less.amount in omega (arith, amount, word, e));
+    bytes : w.bytes.behind ≡ w.bytes.before
+    bytes = h.bytes
+
+    handed : (a : Stepped) → HandsAs a old new → Steps (record w { answer = a }) old new
+    handed (stepped.Hand x) h = (let less = hands x old new r h in record {
+      word = λ gate rest e. (
+          let amount = less.amount gate in
+          let word = same_words w.bytes.before w.bytes.behind gate bytes in
+          omega (arith, amount, word, e)
+          );
       right = less.right;
     })
-    handed a h word = absurd h
+    handed a h = absurd h
 by_due (due.Connect at) w old new alone sound r k some h =
-    by_goes w old new (ap handed_by h.answers) (by_none w.bytes.before.word w.bytes.behind.word old new (ap (λ p. p.word) h.bytes) (by (Less 0 old) new _ h.only (record { amount = omega arith; right = r })))
+    by_goes w old new _ h.answers (λ gate. refl) (by_none w.bytes old new alone (stay_so w.bytes h.bytes) (by (Less nothing old) new _ h.only (record { amount = λ gate. omega arith; right = r })))
 by_due due.Write w old new alone sound r k some h =
-    by_goes w old new (ap handed_by h.answers ∙ put_none h.put)
-    (by_less (returned_for (fault_put h.put) old) w.bytes.before.word w.bytes.behind.word old new (h.bytes alone) (writes h.put w.now old new r h.writes))
-by_due due.Frame w old new alone sound r k some h =
-    by_goes w old new (ap handed_by h.answers ∙ framed_none h.framed) (frames w.bytes h.framed w.now w.bytes.before.word w.bytes.behind.word old new sound r (h.bytes alone) h.frames)
+    by_goes w old new _ h.answers (put_none h.put) (by_less (returned_for (fault_put h.put) old) w.bytes old new alone h.bytes (writes h.put w.now old new r h.writes))
+by_due due.Frame w old new alone sound r k some h = by_goes w old new _ h.answers (framed_none h.framed) (frames w.bytes h.framed w.now old new alone sound r h.bytes h.frames)
 by_due due.Read w old new alone sound r k some h =
-    by_goes w old new (ap handed_by h.answers ∙ read_none (fault_read h.read) h.read.answer h.read.heard)
-    (by_less (returned_for (fault_read h.read) old) w.bytes.before.word w.bytes.behind.word old new (h.bytes alone) (reads h.read w.now old new r h.reads))
+    by_goes w old new _ h.answers (read_none (fault_read h.read) h.read.answer h.read.heard)
+    (by_less (returned_for (fault_read h.read) old) w.bytes old new alone h.bytes (reads h.read w.now old new r h.reads))
 by_due due.Compose w old new alone sound r k some h =
-    by_goes w old new (ap handed_by h.answers ∙ composed_none h.composed)
-    (by_none w.bytes.before.word w.bytes.behind.word old new (ap (λ p. p.word) h.bytes) (by_text (to_compose old.core) refl (some refl) h.composes))
+    by_goes w old new _ h.answers (composed_none h.composed) (by_none w.bytes old new alone (stay_so w.bytes h.bytes) (by_text (to_compose old.core) refl (some refl) h.composes))
   where
-    by_text : (o : Option CoreText) → to_compose old.core ≡ o → is_some o ≡ true → IfSome o (λ t. ComposesAs t h.composed old new) → Less 0 old new
+    by_text : (o : Option CoreText) → to_compose old.core ≡ o → is_some o ≡ true → IfSome o (λ t. ComposesAs t h.composed old new) → Less nothing old new
     by_text (Some t) is e c =
         composes_as t h.composed old new r (λ z. k (h.answers ∙ ap answer_composed z)) (λ z. asks_idle old.core (is ∙ ap (λ (x : CoreText). Some x) z))
-        (left_told old.core.live.feed new.core.live.feed (leaving.composed_so w old new k (some refl) h)) c
+        (left_asked old.core.live.feed new.core.live.feed (leaving.composed_so w old new k (some refl) h)) c
     by_text None is e c = absurd (cc e)
 
-pub steps_on : (w : Worked) (old new : RecordNow) → IsAlone w.bytes.throttle.place → IsRecord old → HoldsRightly old → w.answer ≢ stepped.NoMemory → StepsAs w.answer w old new → Steps w old new
+pub steps_on : (w : Worked) (old new : RecordNow) → AreAlone (places w.bytes.throttles) → IsRecord old → HoldsRightly old → w.answer ≢ stepped.NoMemory → StepsAs w.answer w old new → Steps w old new
 steps_on w old new alone is r k h =
     let (mid, room, taken) = steps.takes w.answer w old new k h in
-    let held : held_in_record mid ≡ held_in_record old = ap held_in_record room in
     let stepped = by_due (due_step w.now mid) w mid new alone (by (λ (z : RecordNow). SessionIsSound z.core.facts z.core.live.session) mid _ room (session-sound old is)) (by HoldsRightly mid _ room r) k
     (steps.compose_is_due w.now mid) taken in
-    record { word = λ rest e. stepped.word rest (omega (arith, held, e)); right = stepped.right }
+    record {
+      word = λ gate rest e. (let held : held_in_record gate mid ≡ held_in_record gate old = ap (held_in_record gate) room in stepped.word gate rest (omega (arith, held, e)));
+      right = stepped.right;
+    }
 
 -- for want of memory a record holds what it held, and nothing is granted or given back
-pub lacks : (w : Worked) (old new : RecordNow) → IsAlone w.bytes.throttle.place → FindsNoMemory w old new →
-    Follows w.bytes.before.word w.bytes.behind.word (held_in_record old) (held_in_record new)
-lacks w old new alone h = sums.stays w.bytes.before.word w.bytes.behind.word (held_in_record old) (held_in_record new) (h.bytes alone) (ap held_in_record h.nothing.only)
+pub lacks : (w : Worked) (old new : RecordNow) → AreAlone (places w.bytes.throttles) → FindsNoMemory w old new →
+    (gate : Gate) → Follows (words w.bytes.before gate) (words w.bytes.behind gate) (held_in_record gate old) (held_in_record gate new)
+lacks w old new alone h gate =
+    sums.stays (words w.bytes.before gate) (words w.bytes.behind gate) (held_in_record gate old) (held_in_record gate new) (h.bytes gate (alone gate)) (ap (held_in_record gate) h.nothing.only)

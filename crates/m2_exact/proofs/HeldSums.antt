@@ -3,6 +3,7 @@ use Rattle.std.proofs.Common.{◌≡◌, ℕ, zero, suc, ◌+◌, ◌-◌, ◌++
 use Rattle.std.specs.Prelude.{sum_by}
 use Rattle.std.proofs.lemmas.List.Sums.{sum_by-append, sum_by-cons}
 use Rattle.m2_dispatch.specs.declared.parcel.Parcel.{Parcel}
+use Rattle.m2_dispatch.specs.m2_shared.Gates.{Gate}
 use Rattle.m2_fabric.proofs.m2_lemmas.Options.{some_same}
 use Rattle.m2_script.specs.m2_center.m2_record.Calls.{all_granted, told_parcels}
 
@@ -15,8 +16,9 @@ Follows before behind old new = (rest : ℕ) → before ≡ old + rest → behin
 pub given : (n before behind old new : ℕ) → behind ≡ before - n → new + n ≡ old → Follows before behind old new
 given n before behind old new word amount rest h = omega (arith, word, amount, h)
 
-pub taken : (n before behind old new : ℕ) → behind ≡ before + n → new ≡ old + n → Follows before behind old new
-taken n before behind old new word amount rest h = omega (arith, word, amount, h)
+-- what was drawn besides what was held is held
+pub kept : (was is before behind old new : ℕ) → behind + was ≡ before + is → new + was ≡ old + is → Follows before behind old new
+kept was is before behind old new word amount rest h = omega (arith, word, amount, h)
 
 pub stays : (before behind old new : ℕ) → behind ≡ before → new ≡ old → Follows before behind old new
 stays before behind old new word amount rest h = omega (arith, word, amount, h)
@@ -33,21 +35,21 @@ as_held before behind old new was is o n f rest h = let e = f rest (omega (arith
 
 -- ---- parcels
 
-pub granted_behind : (xs ys : List Parcel) → all_granted (xs ++ ys) ≡ all_granted xs + all_granted ys
-granted_behind [] ys = omega arith
-granted_behind (x ∷ xs) ys = let e = granted_behind xs ys in omega (arith, e)
+pub granted_behind : (gate : Gate) (xs ys : List Parcel) → all_granted (xs ++ ys) gate ≡ all_granted xs gate + all_granted ys gate
+granted_behind gate [] ys = omega arith
+granted_behind gate (x ∷ xs) ys = let e = granted_behind gate xs ys in omega (arith, e)
 
-told_none : (place : ℕ) (discarded reset : Bool) → all_granted (told_parcels place discarded reset) ≡ 0
-told_none place true true = refl
-told_none place true false = refl
-told_none place false true = refl
-told_none place false false = refl
+told_none : (gate : Gate) (place : ℕ) (discarded reset : Bool) → all_granted (told_parcels place discarded reset) gate ≡ 0
+told_none gate place true true = refl
+told_none gate place true false = refl
+told_none gate place false true = refl
+told_none gate place false false = refl
 
 -- nothing is granted for what tells of a session
-pub told_behind : (xs : List Parcel) (place : ℕ) (discarded reset : Bool) → all_granted (xs ++ told_parcels place discarded reset) ≡ all_granted xs
-told_behind xs place discarded reset =
-    let all = granted_behind xs (told_parcels place discarded reset) in
-    let none = told_none place discarded reset in
+pub told_behind : (gate : Gate) (xs : List Parcel) (place : ℕ) (discarded reset : Bool) → all_granted (xs ++ told_parcels place discarded reset) gate ≡ all_granted xs gate
+told_behind gate xs place discarded reset =
+    let all = granted_behind gate xs (told_parcels place discarded reset) in
+    let none = told_none gate place discarded reset in
     omega (arith, all, none)
 
 -- ---- one of many

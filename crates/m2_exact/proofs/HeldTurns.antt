@@ -7,8 +7,9 @@ use Rattle.m2_dispatch.specs.declared.parcel.Parcel.{Parcel}
 use Rattle.m2_dispatch.specs.declared.parcel.Parcel.TheVariants as parcel
 use Rattle.m2_dispatch.specs.m2_policy.declared.path.Path.{Path}
 use Rattle.m2_dispatch.specs.m2_policy.declared.path.Path.TheVariants.{Fast, Queued}
-use Rattle.m2_dispatch.specs.m2_shared.Place.{IsAlone}
-use Rattle.m2_dispatch.specs.m2_shared.Throttle.{SeenTakePass, SeenThrottle}
+use Rattle.m2_dispatch.specs.m2_shared.Gates.{Gate, held, places, words}
+use Rattle.m2_dispatch.specs.m2_shared.declared.throttles.TakePasses.{TakePasses}
+use Rattle.m2_dispatch.specs.m2_shared.declared.throttles.Throttles.{Throttles}
 use Rattle.m2_script.specs.m2_center.m2_record.Calls.{all_granted, granted_in}
 use Rattle.m2_script.specs.m2_center.m2_record.declared.stepped.Stepped.{Stepped}
 use Rattle.m2_script.specs.m2_center.m2_record.declared.stepped.Stepped.TheVariants as stepped
@@ -22,85 +23,88 @@ use Rattle.m2_exact.proofs.HeldSteps.{handed_by}
 use Rattle.m2_exact.proofs.HeldSums as sums
 use Rattle.m2_exact.proofs.HeldSums.{Follows}
 use Rattle.m2_exact.proofs.RecordTurns.{free_holds_none}
-use Rattle.m2_exact.specs.Holding.{HoldsRightly, held_in_record}
+use Rattle.m2_exact.specs.Holding.{AreAlone, HoldsRightly, held_in_record}
 
 -- ---- words
 
 -- by a record, and where its parcels go
-abbrev pub held_turning : {D : Type 0} → Turning D → ℕ
-held_turning t = held_in_record t.side + out.granted_in t.out
+abbrev pub held_turning : {D : Type 0} → Gate → Turning D → ℕ
+held_turning gate t = held_in_record gate t.side + out.granted_in t.out gate
 
--- the word goes along with what is held, and the record holds rightly
+-- each word goes along with what is held at its gate, and the record holds rightly
 pub record Turns {D : Type 0} (old new : Turning D) : Type 0 where
-  pub word : Follows old.bytes.word new.bytes.word (held_turning old) (held_turning new)
+  pub word : (gate : Gate) → Follows (words old.bytes gate) (words new.bytes gate) (held_turning gate old) (held_turning gate new)
   pub right : HoldsRightly new.side
 
 module _ {D : Type 0} (heard : D → List Heard) where
   -- ---- what is put
 
   -- a letter of a fast kind that is dispatched, or held
-  pub dispatched : (l : Letter) (o new : OutboxNow D) (h : Option Letter) → new.held ≡ h → DispatchesOr heard l o new h → out.granted_in new + returned_for l new.held ≡ all_granted o.mail + l.grant.n
-  dispatched l o new None is (said, mail) =
-      let none = ap held_in is in
-      let back = ap (returned_for l) is in
-      let all = ap all_granted mail in
+  pub dispatched : (gate : Gate) (l : Letter) (o new : OutboxNow D) (h : Option Letter) → new.held ≡ h → DispatchesOr heard l o new h →
+      out.granted_in new gate + returned_for l new.held gate ≡ all_granted o.mail gate + held l.grants gate
+  dispatched gate l o new None is (said, mail) =
+      let none = ap (λ (x : Option Letter). held_in x gate) is in
+      let back = ap (λ (x : Option Letter). returned_for l x gate) is in
+      let all = ap (λ (xs : List Parcel). all_granted xs gate) mail in
       omega (arith, none, back, all)
-  dispatched l o new (Some kept) is (whose, said, mail) =
-      let held = ap held_in is ∙ ap (λ (x : Letter). x.grant.n) whose in
-      let back = ap (returned_for l) is in
-      let all = ap all_granted mail in
+  dispatched gate l o new (Some kept) is (whose, said, mail) =
+      let held = ap (λ (x : Option Letter). held_in x gate) is ∙ ap (λ (x : Letter). held x.grants gate) whose in
+      let back = ap (λ (x : Option Letter). returned_for l x gate) is in
+      let all = ap (λ (xs : List Parcel). all_granted xs gate) mail in
       omega (arith, held, back, all)
 
-  put_letter : (l : Letter) (p : Path) (o new : OutboxNow D) → o.held ≡ None → PutsLetter heard l p o new → out.granted_in new + returned_on l p new.held ≡ out.granted_in o + l.grant.n
-  put_letter l Fast o new none h =
-      let was = ap held_in none in
-      let is = dispatched l o new new.held refl h in
+  put_letter : (gate : Gate) (l : Letter) (p : Path) (o new : OutboxNow D) → o.held ≡ None → PutsLetter heard l p o new →
+      out.granted_in new gate + returned_on l p new.held gate ≡ out.granted_in o gate + held l.grants gate
+  put_letter gate l Fast o new none h =
+      let was = ap (λ (x : Option Letter). held_in x gate) none in
+      let is = dispatched gate l o new new.held refl h in
       omega (arith, was, is)
-  put_letter l Queued o new none h =
-      let all = ap out.granted_in h in
-      let more = sums.granted_behind o.mail (parcel.Letter l ∷ []) in
+  put_letter gate l Queued o new none h =
+      let all = ap (λ (x : OutboxNow D). out.granted_in x gate) h in
+      let more = sums.granted_behind gate o.mail (parcel.Letter l ∷ []) in
       omega (arith, all, more)
 
-  puts : (x : Parcel) (o new : OutboxNow D) → o.held ≡ None → Puts heard x o new → out.granted_in new + returned x new.held ≡ out.granted_in o + granted_in x
-  puts (parcel.Letter l) o new none h = put_letter l l.key.path o new none h
-  puts (parcel.Discard peer) o new none h =
-      let all = ap out.granted_in h in
-      let more = sums.granted_behind o.mail (parcel.Discard peer ∷ []) in
+  puts : (gate : Gate) (x : Parcel) (o new : OutboxNow D) → o.held ≡ None → Puts heard x o new → out.granted_in new gate + returned x new.held gate ≡ out.granted_in o gate + granted_in x gate
+  puts gate (parcel.Letter l) o new none h = put_letter gate l l.key.path o new none h
+  puts gate (parcel.Discard peer) o new none h =
+      let all = ap (λ (x : OutboxNow D). out.granted_in x gate) h in
+      let more = sums.granted_behind gate o.mail (parcel.Discard peer ∷ []) in
       omega (arith, all, more)
-  puts (parcel.RemoteReset peer) o new none h =
-      let all = ap out.granted_in h in
-      let more = sums.granted_behind o.mail (parcel.RemoteReset peer ∷ []) in
+  puts gate (parcel.RemoteReset peer) o new none h =
+      let all = ap (λ (x : OutboxNow D). out.granted_in x gate) h in
+      let more = sums.granted_behind gate o.mail (parcel.RemoteReset peer ∷ []) in
       omega (arith, all, more)
 
-  kept_out : (o new : OutboxNow D) (before behind : SeenTakePass) → new ≡ o → behind ≡ before → Follows before.word behind.word (out.granted_in o + 0) (out.granted_in new)
-  kept_out o new before behind h g =
-      let all = ap out.granted_in h in
-      sums.stays before.word behind.word (out.granted_in o + 0) (out.granted_in new) (ap (λ (p : SeenTakePass). p.word) g) (omega (arith, all))
+  kept_out : (gate : Gate) (o new : OutboxNow D) (before behind : TakePasses) → new ≡ o → behind ≡ before →
+      Follows (words before gate) (words behind gate) (out.granted_in o gate + 0) (out.granted_in new gate)
+  kept_out gate o new before behind h g =
+      let all = ap (λ (x : OutboxNow D). out.granted_in x gate) h in
+      sums.stays (words before gate) (words behind gate) (out.granted_in o gate + 0) (out.granted_in new gate) (steps.same_words before behind gate g) (omega (arith, all))
 
   -- what a step hands out goes where parcels go, or is given back
-  handed : (t : SeenThrottle) (a : Stepped) (o new : OutboxNow D) (before behind : SeenTakePass) → IsAlone t.place → o.held ≡ None → PutsHanded heard a o new → GivesHanded t a new before behind →
-      Follows before.word behind.word (out.granted_in o + handed_by a) (out.granted_in new)
-  handed t (stepped.Hand x) o new before behind alone none h g =
-      sums.given (returned x new.held) before.word behind.word (out.granted_in o + granted_in x) (out.granted_in new) (g alone) (puts x o new none h)
-  handed t stepped.Moved o new before behind alone none h g = kept_out o new before behind h g
-  handed t stepped.Dry o new before behind alone none h g = kept_out o new before behind h g
-  handed t (stepped.Full _) o new before behind alone none h g = kept_out o new before behind h g
-  handed t (stepped.Again _ _) o new before behind alone none h g = kept_out o new before behind h g
-  handed t stepped.Spent o new before behind alone none h g = kept_out o new before behind h g
-  handed t (stepped.Faulted _) o new before behind alone none h g = kept_out o new before behind h g
-  handed t stepped.NoMemory o new before behind alone none h g = kept_out o new before behind h g
+  handed : (t : Throttles) (a : Stepped) (o new : OutboxNow D) (before behind : TakePasses) → AreAlone (places t) → o.held ≡ None → PutsHanded heard a o new → GivesHanded t a new before behind →
+      (gate : Gate) → Follows (words before gate) (words behind gate) (out.granted_in o gate + handed_by a gate) (out.granted_in new gate)
+  handed t (stepped.Hand x) o new before behind alone none h g gate =
+      sums.given (returned x new.held gate) (words before gate) (words behind gate) (out.granted_in o gate + granted_in x gate) (out.granted_in new gate) (g gate (alone gate)) (puts gate x o new none h)
+  handed t stepped.Moved o new before behind alone none h g gate = kept_out gate o new before behind h g
+  handed t stepped.Dry o new before behind alone none h g gate = kept_out gate o new before behind h g
+  handed t (stepped.Full stage out) o new before behind alone none h g gate = kept_out gate o new before behind h g
+  handed t (stepped.Again stage seen now) o new before behind alone none h g gate = kept_out gate o new before behind h g
+  handed t stepped.Spent o new before behind alone none h g gate = kept_out gate o new before behind h g
+  handed t (stepped.Faulted cause) o new before behind alone none h g gate = kept_out gate o new before behind h g
+  handed t stepped.NoMemory o new before behind alone none h g gate = kept_out gate o new before behind h g
 
-  module _ (m : Means) (alone : IsAlone m.throttle.place) where
+  module _ (m : Means) (alone : AreAlone (places m.throttles)) where
     -- ---- one step
 
     stepped_on : (a : Stepped) (old new : Turning D) → HoldsRightly old.side → a ≢ stepped.NoMemory → TakesStep heard m a old new → Turns old new
     stepped_on a old new r k h =
         let one = steps.steps_on (worked_by m a h.behind old new) old.side new.side alone h.before r k h.steps in
-        let other = handed m.throttle a old.out new.out h.behind new.bytes alone (free_holds_none heard old.out h.free) h.puts h.gives in
+        let other = handed m.throttles a old.out new.out h.behind new.bytes alone (free_holds_none heard old.out h.free) h.puts h.gives in
         record {
-          word = λ rest e.
-              (let first = one.word (out.granted_in old.out + rest) (omega (arith, e)) in
-              let second = other (held_in_record new.side + rest) (omega (arith, first)) in
+          word = λ gate rest e.
+              (let first = one.word gate (out.granted_in old.out gate + rest) (omega (arith, e)) in
+              let second = other gate (held_in_record gate new.side + rest) (omega (arith, first)) in
               omega (arith, second));
           right = one.right;
         }
@@ -118,12 +122,12 @@ module _ {D : Type 0} (heard : D → List Heard) where
 
     then_turns : (old mid new : Turning D) → Turns old mid → Turns mid new → Turns old new
     then_turns old mid new h g = record {
-      word = sums.along old.bytes.word mid.bytes.word new.bytes.word (held_turning old) (held_turning mid) (held_turning new) h.word g.word;
+      word = λ gate. sums.along (words old.bytes gate) (words mid.bytes gate) (words new.bytes gate) (held_turning gate old) (held_turning gate mid) (held_turning gate new) (h.word gate) (g.word gate);
       right = g.right;
     }
 
     stays_so : (old new : Turning D) → HoldsRightly old.side → old ≡ new → Turns old new
-    stays_so old new r e = subst (Turns old) e (record { word = λ rest h. h; right = r })
+    stays_so old new r e = subst (Turns old) e (record { word = λ gate rest h. h; right = r })
 
     all_steps : (ts : List (Turning D)) (old new : Turning D) → HoldsRightly old.side → Steps heard m ts old new → Turns old new
     all_steps [] old new r e = stays_so old new r e
@@ -131,8 +135,8 @@ module _ {D : Type 0} (heard : D → List Heard) where
 
     ends_memory : (result : RecordTurn) (a : Stepped) → EndsWith result a → result ≢ turn.NoMemory → a ≢ stepped.NoMemory
     ends_memory turn.Dry a h k e = subst (EndsWith turn.Dry) e h
-    ends_memory (turn.Full held) a h k e = subst (EndsWith (turn.Full held)) e h
-    ends_memory (turn.Again seen at) a h k e = subst (EndsWith (turn.Again seen at)) e h
+    ends_memory (turn.Full stage held) a h k e = subst (EndsWith (turn.Full stage held)) e h
+    ends_memory (turn.Again stage seen at) a h k e = subst (EndsWith (turn.Again stage seen at)) e h
     ends_memory turn.Spent a h k e = subst (EndsWith turn.Spent) e h
     ends_memory (turn.Faulted cause) a h k e = subst (EndsWith (turn.Faulted cause)) e h
     ends_memory turn.Busy a h k e = subst (EndsWith turn.Busy) e h
@@ -148,19 +152,19 @@ module _ {D : Type 0} (heard : D → List Heard) where
     turns turn.Busy old new r k h = all_steps h.stood old new r h.steps
     turns turn.Stuck old new r k h = all_steps h.led.stood old new r h.led.steps
     turns turn.Dry old new r k h = ends turn.Dry old new r k h
-    turns (turn.Full n) old new r k h = ends (turn.Full n) old new r k h
-    turns (turn.Again n l) old new r k h = ends (turn.Again n l) old new r k h
+    turns (turn.Full stage n) old new r k h = ends (turn.Full stage n) old new r k h
+    turns (turn.Again stage n l) old new r k h = ends (turn.Again stage n l) old new r k h
     turns turn.Spent old new r k h = ends turn.Spent old new r k h
     turns (turn.Faulted f) old new r k h = ends (turn.Faulted f) old new r k h
     turns turn.NoMemory old new r k h = absurd (k refl)
 
     -- ---- a turn in which memory ran out
 
-    stopped : (mid new : Turning D) → TakesStep heard m stepped.NoMemory mid new → Follows mid.bytes.word new.bytes.word (held_turning mid) (held_turning new)
-    stopped mid new h rest e =
-        let side = steps.lacks (worked_by m stepped.NoMemory h.behind mid new) mid.side new.side alone h.steps (out.granted_in mid.out + rest) (omega (arith, e)) in
-        let word = ap (λ (p : SeenTakePass). p.word) h.gives in
-        let all = ap out.granted_in h.puts in
+    stopped : (mid new : Turning D) → TakesStep heard m stepped.NoMemory mid new → (gate : Gate) → Follows (words mid.bytes gate) (words new.bytes gate) (held_turning gate mid) (held_turning gate new)
+    stopped mid new h gate rest e =
+        let side = steps.lacks (worked_by m stepped.NoMemory h.behind mid new) mid.side new.side alone h.steps gate (out.granted_in mid.out gate + rest) (omega (arith, e)) in
+        let word = steps.same_words h.behind new.bytes gate h.gives in
+        let all = ap (λ (x : OutboxNow D). out.granted_in x gate) h.puts in
         omega (arith, side, word, all)
 
     without : (a : Stepped) → EndsWith turn.NoMemory a → a ≡ stepped.NoMemory
@@ -168,13 +172,14 @@ module _ {D : Type 0} (heard : D → List Heard) where
     without stepped.Moved h = absurd h
     without (stepped.Hand x) h = absurd h
     without stepped.Dry h = absurd h
-    without (stepped.Full out) h = absurd h
-    without (stepped.Again seen now) h = absurd h
+    without (stepped.Full stage out) h = absurd h
+    without (stepped.Again stage seen now) h = absurd h
     without stepped.Spent h = absurd h
     without (stepped.Faulted cause) h = absurd h
 
-    pub stops : (old new : Turning D) → HoldsRightly old.side → TurnsAs heard m turn.NoMemory old new → Follows old.bytes.word new.bytes.word (held_turning old) (held_turning new)
-    stops old new r h =
+    pub stops : (old new : Turning D) → HoldsRightly old.side → TurnsAs heard m turn.NoMemory old new →
+        (gate : Gate) → Follows (words old.bytes gate) (words new.bytes gate) (held_turning gate old) (held_turning gate new)
+    stops old new r h gate =
         let one = all_steps h.led.stood old h.mid r h.led.steps in
         let takes = subst (λ (a : Stepped). TakesStep heard m a h.mid new) (without h.answer h.ends) h.takes in
-        sums.along old.bytes.word h.mid.bytes.word new.bytes.word (held_turning old) (held_turning h.mid) (held_turning new) one.word (stopped h.mid new takes)
+        sums.along (words old.bytes gate) (words h.mid.bytes gate) (words new.bytes gate) (held_turning gate old) (held_turning gate h.mid) (held_turning gate new) (one.word gate) (stopped h.mid new takes gate)

@@ -1,6 +1,8 @@
 pub mod Accepts
 pub mod Advances
+pub mod Alone
 pub mod Answers
+pub mod Asking
 pub mod Centers
 pub mod Composing
 pub mod Cores

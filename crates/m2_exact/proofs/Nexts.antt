@@ -1,18 +1,18 @@
 -- Cores that are alike but for room answer alike to what stands at the front of their feeds, but for want of memory.
-use Rattle.std.proofs.Common.{◌≡◌, ℕ, ◌+◌, Bool, true, Option, None, Some, inl, inr, refl, sym, subst, ◌∙◌, ap}
-use Rattle.std.specs.Prelude.{◌≢◌, ◌⊎◌}
+use Rattle.std.proofs.Common.{◌≡◌, ℕ, ◌+◌, Bool, true, Option, None, Some, refl, sym, subst, ◌∙◌, ap}
+use Rattle.std.specs.Prelude.{◌≢◌}
 use Rattle.std.specs.Option.{option_map}
 use Rattle.m2_fabric.proofs.m2_lemmas.Options.{some_same}
 use Rattle.m2_script.specs.m2_center.m2_core.Accepting.{Accepts}
 use Rattle.m2_script.specs.m2_center.m2_core.CoreNow.{CoreNow}
 use Rattle.m2_script.specs.m2_center.m2_core.Front.{FrontHeard, asks, heard_by, rests, tells}
-use Rattle.m2_script.specs.m2_center.m2_core.Granting.{Throttled, after_granted}
+use Rattle.m2_script.specs.m2_center.m2_core.Granting.{Throttled, after_asked}
 use Rattle.m2_script.specs.m2_center.m2_core.Hearing.{HasObeyed}
 use Rattle.m2_script.specs.m2_center.m2_core.LiveAccepting.{accepted_live}
 use Rattle.m2_script.specs.m2_center.m2_core.LiveNow.{LiveNow, OnFeedNow, is_waiting}
 use Rattle.m2_script.specs.m2_center.m2_core.LiveCalls.{after_counted, after_fault, live_with, passed_live}
 use Rattle.m2_script.specs.m2_center.m2_core.Effects as effects
-use Rattle.m2_script.specs.m2_center.m2_core.Next.{Closes, Counts, IsNext}
+use Rattle.m2_script.specs.m2_center.m2_core.Next.{Closes, Counts, IsNext, granted_next}
 use Rattle.m2_script.specs.m2_center.m2_core.OnFeed.{granted_feed}
 use Rattle.m2_script.specs.m2_center.m2_core.Passing.{HasPassed, HasStamped, StampsFeed}
 use Rattle.m2_script.specs.m2_center.m2_core.declared.accepting.CoreAccepted.{CoreAccepted}
@@ -21,8 +21,12 @@ use Rattle.m2_script.specs.m2_center.m2_core.declared.next.CoreNext.TheVariants 
 use Rattle.m2_dispatch.specs.m2_message.Message.{Content, content_of}
 use Rattle.m2_dispatch.specs.m2_message.MessageFrame.{message_in}
 use Rattle.m2_dispatch.specs.m2_message.declared.message.Message.{Message}
-use Rattle.m2_dispatch.specs.m2_shared.Place.{IsAlone}
-use Rattle.m2_dispatch.specs.m2_shared.Throttle.{SeenGrant, SeenThrottle, Waits}
+use Rattle.m2_dispatch.specs.m2_shared.Gates.{AsksPeer, Gate, by_stage, gate_of, pass_in, places, throttle_in, words}
+use Rattle.m2_dispatch.specs.m2_shared.Stages.{grant_at}
+use Rattle.m2_dispatch.specs.m2_shared.declared.more.More.{More}
+use Rattle.m2_dispatch.specs.m2_shared.declared.more.More.TheVariants as more
+use Rattle.m2_dispatch.specs.m2_shared.declared.peer_grants.PeerGrants.{PeerGrants}
+use Rattle.m2_dispatch.specs.m2_shared.declared.throttles.Throttles.{Throttles}
 use Rattle.m2_script.specs.m2_center.m2_feed.FeedNow.{FeedNow, Reading}
 use Rattle.m2_script.specs.m2_center.m2_feed.declared.frame_heard.FrameHeard.TheVariants as heard
 use Rattle.m2_script.specs.m2_center.m2_feed.declared.hearer.Hearer.{Hearer}
@@ -34,10 +38,12 @@ use Rattle.m2_script.specs.m2_center.m2_feed.m2_session.declared.event.Event.The
 use Rattle.m2_script.specs.m2_center.m2_turn.m2_handshake.m2_frame.Frame.{Parts}
 use Rattle.m2_script.specs.m2_center.m2_turn.m2_handshake.m2_frame.Reading.{whole}
 use Rattle.m2_script.specs.m2_center.m2_record.Framing.{AnswersFront}
+use Rattle.m2_exact.proofs.Asking.{AskAlike, ask_alike, same_grants}
 use Rattle.m2_exact.proofs.Cores as cores
 use Rattle.m2_exact.proofs.Fronts as fronts
 use Rattle.m2_exact.proofs.Plain.{none}
 use Rattle.m2_exact.specs.Cores.{roomless, roomless_feed}
+use Rattle.m2_exact.specs.Holding.{AreAlone}
 
 -- the message that says this
 abbrev of_content : Content → Message
@@ -45,13 +51,18 @@ of_content m = record { header = m.header; front = record { bytes = m.front }; m
 
 -- ---- what was found at the front
 
-is_granted : (t : Throttled) (n : ℕ) (one : CoreNext) (c new : CoreNow) → IsAlone t.throttle.place → IsNext t one (asks n) c new →
-    ((one ≡ next.Granted) × (Waits t.throttle.most t.before.word n → ⊥) × (new ≡ record c { live = after_granted t.throttle.place n c.live }))
-    ⊎ ((one ≡ next.Full t.before.word) × Waits t.throttle.most t.before.word n × (new ≡ c))
-is_granted t n next.Granted c new alone (a, g) = inl (refl, a.alone alone, g.only)
-is_granted t n (next.Full held) c new alone (a, same) = inr (ap (λ (m : ℕ). next.Full m) (a.alone alone).0, (a.alone alone).1, same)
-is_granted t n (next.Again seen now) c new alone (a, same) = absurd (a.alone alone)
-is_granted t n one c new alone h = absurd h
+-- a size was asked for, with this answer
+record HasAnswered (t : Throttled) (n : ℕ) (one : CoreNext) (c new : CoreNow) : Type 0 where
+  pub answer : More
+  pub is : one ≡ granted_next answer
+  pub asks : AsksPeer answer n t.throttles t.before t.behind c.live.granted new.live.granted
+  pub only : new ≡ record c { live = after_asked answer new.live.granted c.live }
+
+is_asked : (t : Throttled) (n : ℕ) (one : CoreNext) (c new : CoreNow) → IsNext t one (asks n) c new → HasAnswered t n one c new
+is_asked t n next.Granted c new h = record { answer = more.Whole; is = refl; asks = h.asks; only = h.only }
+is_asked t n (next.Full stage held) c new h = record { answer = more.Full stage held; is = refl; asks = h.asks; only = h.only }
+is_asked t n (next.Again stage seen now) c new h = record { answer = more.Again stage seen now; is = refl; asks = h.asks; only = h.only }
+is_asked t n one c new h = absurd h
 
 is_passed : (t : Throttled) (one : CoreNext) (c new : CoreNow) → IsNext t one (tells heard.Nothing) c new → (one ≡ next.Passed) × HasPassed c new
 is_passed t next.Passed c new h = (refl, h)
@@ -97,14 +108,19 @@ module _ (c d new behind : CoreNow) (like : roomless c ≡ roomless d) where
   stayed : new ≡ c → behind ≡ d → roomless new ≡ roomless behind
   stayed h k = ap roomless h ∙ like ∙ sym (ap roomless k)
 
-  granted : (t u : SeenThrottle) (n : ℕ) → t ≡ u → new ≡ record c { live = after_granted t.place n c.live } → behind ≡ record d { live = after_granted u.place n d.live } → roomless new ≡ roomless behind
-  granted t u n same h k =
-      ap roomless h
-      ∙ ap (λ (x : Option FeedNow). record c { live = record c.live { feed = x; granted = Some (record { place = t.place; n = n }) } }) (granted_roomless c.live.feed)
-      ∙ ap (λ (s : SeenThrottle). record c { live = record c.live { feed = granted_feed (option_map roomless_feed c.live.feed); granted = Some (record { place = s.place; n = n }) } }) same
-      ∙ ap (λ (x : CoreNow). record x { live = after_granted u.place n x.live }) like
-      ∙ sym (ap (λ (x : Option FeedNow). record d { live = record d.live { feed = x; granted = Some (record { place = u.place; n = n }) } }) (granted_roomless d.live.feed))
-      ∙ sym (ap roomless k)
+  asked : (a : More) (g k : PeerGrants) → g ≡ k → new ≡ record c { live = after_asked a g c.live } → behind ≡ record d { live = after_asked a k d.live } → roomless new ≡ roomless behind
+  asked a g k same h l = ap roomless h ∙ by a ∙ sym (ap roomless l)
+    where
+      by : (a : More) → roomless (record c { live = after_asked a g c.live }) ≡ roomless (record d { live = after_asked a k d.live })
+      by more.Whole =
+          ap (λ (x : Option FeedNow). record c { live = record c.live { feed = x; granted = g } }) (granted_roomless c.live.feed)
+          ∙ ap (λ (x : CoreNow). record x { live = record x.live { feed = granted_feed x.live.feed; granted = g } }) like
+          ∙ ap (λ (x : PeerGrants). record d { live = record d.live { feed = granted_feed (option_map roomless_feed d.live.feed); granted = x } }) same
+          ∙ sym (ap (λ (x : Option FeedNow). record d { live = record d.live { feed = x; granted = k } }) (granted_roomless d.live.feed))
+      by (more.Full stage out) =
+          ap (λ (x : CoreNow). record x { live = record x.live { granted = g } }) like ∙ ap (λ (x : PeerGrants). record (roomless d) { live = record (roomless d).live { granted = x } }) same
+      by (more.Again stage seen now) =
+          ap (λ (x : CoreNow). record x { live = record x.live { granted = g } }) like ∙ ap (λ (x : PeerGrants). record (roomless d) { live = record (roomless d).live { granted = x } }) same
 
   passed : option_map roomless_feed new.live.feed ≡ option_map roomless_feed behind.live.feed → new ≡ record c { live = passed_live new.live.feed c.live } →
       behind ≡ record d { live = passed_live behind.live.feed d.live } → roomless new ≡ roomless behind
@@ -155,15 +171,15 @@ module _ (c d new behind : CoreNow) (like : roomless c ≡ roomless d) where
     same_key : a.key ≡ b.key
     same_key = h.key ∙ ap (λ (x : CoreNow). key_of x.facts (content_of a.message)) like ∙ ap (λ (m : Content). key_of d.facts m) same_content ∙ sym k.key
 
-    same_grant : a.grant ≡ b.grant
-    same_grant = some_same a.grant b.grant (sym h.grant ∙ ap (λ (x : CoreNow). x.live.granted) like ∙ k.grant)
+    same_held : a.grants ≡ b.grants
+    same_held = sym h.grants ∙ ap (λ (x : CoreNow). x.live.granted) like ∙ k.grants
 
     same_accepted : a ≡ b
     same_accepted =
         ap (λ (n : ℕ). record a { number = n }) same_number
         ∙ ap (λ (n : ℕ). record a { number = b.number; life = n }) (h.life ∙ ap (λ (x : CoreNow). x.live.life) like ∙ sym k.life)
         ∙ ap (λ (key : Key). record a { number = b.number; life = b.life; key = key }) same_key
-        ∙ ap (λ (g : SeenGrant). record a { number = b.number; life = b.life; key = b.key; grant = g }) same_grant
+        ∙ ap (λ (g : PeerGrants). record a { number = b.number; life = b.life; key = b.key; grants = g }) same_held
         ∙ ap (λ (m : Content). record b { message = of_content m }) same_content
 
     accepted : roomless new ≡ roomless behind
@@ -194,29 +210,40 @@ module _ (c d new behind : CoreNow) (like : roomless c ≡ roomless d) where
 
 -- throttles that are alone, and alike but for what passes forget
 pub record LikeThrottles (t u : Throttled) : Type 0 where
-  pub alone : IsAlone t.throttle.place
-  pub throttle : t.throttle ≡ u.throttle
-  pub word : t.before.word ≡ u.before.word
+  pub alone : AreAlone (places t.throttles)
+  pub throttles : t.throttles ≡ u.throttles
+  pub word : (gate : Gate) → words t.before gate ≡ words u.before gate
 
 module _ (t u : Throttled) (p : LikeThrottles t u) (one other : CoreNext) (m : one ≢ next.NoMemory) (k : other ≢ next.NoMemory) (c d new behind : CoreNow) (like : roomless c ≡ roomless d) where
   of_size : (n : ℕ) → IsNext t one (asks n) c new → IsNext u other (asks n) d behind → Agree one other new behind
-  of_size n h g = by (is_granted t n one c new p.alone h) (is_granted u n other d behind (subst (λ (s : SeenThrottle). IsAlone s.place) p.throttle p.alone) g)
+  of_size n h g = record {
+    answers = a.is ∙ ap granted_next alike.answers ∙ sym b.is;
+    cores = asked c d new behind like b.answer new.live.granted behind.live.granted grants
+        (a.only ∙ ap (λ (x : More). record c { live = after_asked x new.live.granted c.live }) alike.answers) b.only;
+  }
     where
-      here : Waits t.throttle.most t.before.word n → Waits u.throttle.most u.before.word n
-      here w = subst (λ (x : ℕ). Waits u.throttle.most x n) p.word (subst (λ (s : SeenThrottle). Waits s.most t.before.word n) p.throttle w)
+      a : HasAnswered t n one c new
+      a = is_asked t n one c new h
 
-      back : Waits u.throttle.most u.before.word n → Waits t.throttle.most t.before.word n
-      back w = subst (λ (x : ℕ). Waits t.throttle.most x n) (sym p.word) (subst (λ (s : SeenThrottle). Waits s.most u.before.word n) (sym p.throttle) w)
+      b : HasAnswered u n other d behind
+      b = is_asked u n other d behind g
 
-      by : ((one ≡ next.Granted) × (Waits t.throttle.most t.before.word n → ⊥) × (new ≡ record c { live = after_granted t.throttle.place n c.live }))
-          ⊎ ((one ≡ next.Full t.before.word) × Waits t.throttle.most t.before.word n × (new ≡ c)) →
-          ((other ≡ next.Granted) × (Waits u.throttle.most u.before.word n → ⊥) × (behind ≡ record d { live = after_granted u.throttle.place n d.live }))
-          ⊎ ((other ≡ next.Full u.before.word) × Waits u.throttle.most u.before.word n × (behind ≡ d)) → Agree one other new behind
-      by (inl (a, w, only)) (inl (b, x, last)) = record { answers = a ∙ sym b; cores = granted c d new behind like t.throttle u.throttle n p.throttle only last }
-      by (inl (a, w, only)) (inr (b, x, last)) = absurd (w (back x))
-      by (inr (a, w, only)) (inl (b, x, last)) = absurd (x (here w))
-      by (inr (a, w, only)) (inr (b, x, last)) =
-          record { answers = a ∙ ap (λ (n : ℕ). next.Full n) p.word ∙ sym b; cores = stayed c d new behind like only last }
+      held : c.live.granted ≡ d.live.granted
+      held = ap (λ (x : CoreNow). x.live.granted) like
+
+      -- what is asked there, of the peer of this type
+      other_asks : AsksPeer b.answer n u.throttles u.before u.behind c.live.granted behind.live.granted
+      other_asks = subst (λ (x : PeerGrants). AsksPeer b.answer n u.throttles u.before u.behind x behind.live.granted) (sym held) b.asks
+
+      alike : AskAlike a.answer b.answer (grant_at new.live.granted.grants) (grant_at behind.live.granted.grants)
+      alike =
+          ask_alike n (by_stage c.live.granted.peer (throttle_in t.throttles)) (by_stage c.live.granted.peer (throttle_in u.throttles)) (λ s. p.alone (gate_of c.live.granted.peer s))
+          (by_stage c.live.granted.peer (pass_in t.before)) (by_stage c.live.granted.peer (pass_in t.behind)) (by_stage c.live.granted.peer (pass_in u.before)) (by_stage c.live.granted.peer (pass_in u.behind))
+          (grant_at c.live.granted.grants) (grant_at new.live.granted.grants) (grant_at c.live.granted.grants) (grant_at behind.live.granted.grants)
+          (λ s. ap (λ (x : Throttles). throttle_in x (gate_of c.live.granted.peer s)) p.throttles) (λ s. p.word (gate_of c.live.granted.peer s)) (λ s. refl) a.answer b.answer a.asks.asks other_asks.asks
+
+      grants : new.live.granted ≡ behind.live.granted
+      grants = same_grants new.live.granted behind.live.granted (a.asks.peer ∙ sym other_asks.peer) alike.each
 
   of_front : (f : FrontHeard) → IsNext t one f c new → IsNext u other f d behind → Agree one other new behind
   of_front rests h g = by one other h g

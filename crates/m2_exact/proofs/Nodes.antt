@@ -1,11 +1,13 @@
 -- Nodes that are alike take their turns alike, as their centers do, and plan alike.
 use Rattle.std.proofs.Common.{◌≡◌, ℕ, ◌+◌, ◌-◌, not, ◌++◌, cond, List, [], ◌∷◌, length, map, slice_get, slice_set, Option, None, Some, Ok, refl, sym, subst, ◌∙◌, ap}
+use Rattle.std.proofs.Math.Path.{fun_ext}
 use Rattle.std.specs.Prelude.{nat_lt}
 use Rattle.std.specs.List.{AllByRecursion, flat_map, prefix_len}
 use Rattle.std.proofs.lemmas.List.{length-map}
 use Rattle.m2_dispatch.specs.Heard.{Heard}
 use Rattle.m2_dispatch.specs.m2_shared.Numbers.{SeenNumbers}
-use Rattle.m2_dispatch.specs.m2_shared.Throttle.{SeenThrottle}
+use Rattle.m2_dispatch.specs.m2_shared.Gates.{Gate, places, words}
+use Rattle.m2_dispatch.specs.m2_shared.declared.throttles.Throttles.{Throttles}
 use Rattle.m2_fabric.proofs.m2_lemmas.Lists.{all_at, all_back, all_front, all_of_map, all_so, cons_same}
 use Rattle.m2_fabric.specs.End.{SeenEnd}
 use Rattle.m2_fabric.specs.Kinds.{IsInMemory}
@@ -29,7 +31,7 @@ use Rattle.m2_exact.proofs.Signing as signing
 use Rattle.m2_exact.specs.Centers.{IsFitCenter, LikeCentersTurnAlike, PlainCenter, plain_center}
 use Rattle.m2_exact.specs.Cores.{OnMemory}
 use Rattle.m2_exact.specs.Nodes.{IsAskedBehind, IsFitNode, LikeNodesActAlike, NodeTurned, PlainNode, plain_node}
-use Rattle.m2_exact.specs.Records.{bare_take, plain}
+use Rattle.m2_exact.specs.Records.{plain}
 use Rattle.m2_exact.specs.RecordTurns.{HasAlone, IsFit}
 
 -- ---- a node that is fit has a center that is
@@ -77,10 +79,10 @@ place_same peer rs ss like =
     ap (λ n. cond (nat_lt n (length rs)) (Some n) None) (first_same peer rs ss like)
     ∙ ap (λ m. cond (nat_lt (prefix_len (λ r. not (is_towards peer r)) ss) m) (Some (prefix_len (λ r. not (is_towards peer r)) ss)) None) many
 
-returned_same : (x : PlanStep) (r s : RecordNow) → plain r ≡ plain s → returned_by (Some x) r ≡ returned_by (Some x) s
-returned_same step.Down r s like = ap (λ (z : RecordNow). returned_by (Some step.Down) z) like
-returned_same step.Dial r s like = refl
-returned_same (step.Post m) r s like = refl
+returned_same : (x : PlanStep) (r s : RecordNow) → plain r ≡ plain s → (gate : Gate) → returned_by (Some x) r gate ≡ returned_by (Some x) s gate
+returned_same step.Down r s like gate = ap (λ (z : RecordNow). returned_by (Some step.Down) z gate) like
+returned_same step.Dial r s like gate = refl
+returned_same (step.Post m) r s like gate = refl
 
 one_number : (n m : ℕ) → Some n ≡ Some m → n ≡ m
 one_number n m e = cc e
@@ -92,44 +94,44 @@ module _ {D : Type 0} (E : Type 0) (heard : D → List Heard) where
   law : LikeCentersTurnAlike E D heard
   law = centers.alike heard
 
-  node_of : (new behind : NodeNow D) → plain_center heard new.center ≡ plain_center heard behind.center → new.numbers ≡ behind.numbers → new.throttle ≡ behind.throttle → plain_node heard new ≡ plain_node heard behind
-  node_of new behind center numbers throttle =
+  node_of : (new behind : NodeNow D) → plain_center heard new.center ≡ plain_center heard behind.center → new.numbers ≡ behind.numbers → new.throttles ≡ behind.throttles → plain_node heard new ≡ plain_node heard behind
+  node_of new behind center numbers throttles =
       ap (λ (c : PlainCenter). record (plain_node heard new) { center = c }) center
-      ∙ ap (λ (n : SeenNumbers). record { center = plain_center heard behind.center; numbers = n; throttle = new.throttle }) numbers
-      ∙ ap (λ (t : SeenThrottle). record (plain_node heard behind) { throttle = t }) throttle
+      ∙ ap (λ (n : SeenNumbers). record { center = plain_center heard behind.center; numbers = n; throttles = new.throttles }) numbers
+      ∙ ap (λ (t : Throttles). record (plain_node heard behind) { throttles = t }) throttles
 
   -- ---- a turn
 
-  alone : (now : ℕ) (n : NodeNow D) → IsFitNode n → HasAlone (means_at now n.numbers n.throttle)
-  alone now n f = record { throttle = f.throttle; counter = f.counter }
+  alone : (now : ℕ) (n : NodeNow D) → IsFitNode n → HasAlone (means_at now n.numbers n.throttles)
+  alone now n f = record { throttles = f.throttles; counter = f.counter }
 
   turns : (now : ℕ) (old last new behind : NodeNow D) → IsFitNode old → plain_node heard old ≡ plain_node heard last → NodeTurned E heard now old new → NodeTurned E heard now last behind →
       plain_node heard new ≡ plain_node heard behind
   turns now old last new behind f like h g =
       let numbers : old.numbers ≡ last.numbers = ap (λ (n : PlainNode). n.numbers) like in
-      let throttle : old.throttle ≡ last.throttle = ap (λ (n : PlainNode). n.throttle) like in
-      let other : TakesTurn E heard (means_at now old.numbers old.throttle) (Ok tt) last.center behind.center =
-      subst (λ (t : SeenThrottle). TakesTurn E heard (means_at now old.numbers t) (Ok tt) last.center behind.center) (sym throttle)
-      (subst (λ (n : SeenNumbers). TakesTurn E heard (means_at now n last.throttle) (Ok tt) last.center behind.center) (sym numbers) g.turns.turns) in
+      let throttles : old.throttles ≡ last.throttles = ap (λ (n : PlainNode). n.throttles) like in
+      let other : TakesTurn E heard (means_at now old.numbers old.throttles) (Ok tt) last.center behind.center =
+      subst (λ (t : Throttles). TakesTurn E heard (means_at now old.numbers t) (Ok tt) last.center behind.center) (sym throttles)
+      (subst (λ (n : SeenNumbers). TakesTurn E heard (means_at now n last.throttles) (Ok tt) last.center behind.center) (sym numbers) g.turns.turns) in
       node_of new behind
-      (law.turns (means_at now old.numbers old.throttle) old.center last.center new.center behind.center (alone now old f) (fit_center old f) (ap (λ (n : PlainNode). n.center) like) h.turns.turns other h.none_held g.none_held)
+      (law.turns (means_at now old.numbers old.throttles) old.center last.center new.center behind.center (alone now old f) (fit_center old f) (ap (λ (n : PlainNode). n.center) like) h.turns.turns other h.none_held g.none_held)
       (h.turns.shared.numbers ∙ numbers ∙ sym g.turns.shared.numbers)
-      (h.turns.shared.throttle ∙ throttle ∙ sym g.turns.shared.throttle)
+      (h.turns.shared.throttles ∙ throttles ∙ sym g.turns.shared.throttles)
 
   turn_stays : (now : ℕ) (old new : NodeNow D) → IsFitNode old → NodeTurned E heard now old new → IsWholeNode new → IsFitNode new
   turn_stays now old new f h whole =
-      let fit = law.stays (means_at now old.numbers old.throttle) old.center new.center (fit_center old f) h.turns.turns h.none_held in
+      let fit = law.stays (means_at now old.numbers old.throttles) old.center new.center (fit_center old f) h.turns.turns h.none_held in
       record {
         whole = whole;
         asked = all_so IsFit IsAskedBehind (λ r fit. fit.asked) new.center.records fit.records;
-        throttle = ap (λ (t : SeenThrottle). t.place) h.turns.shared.throttle ∙ f.throttle;
+        throttles = λ gate. ap (λ (t : Throttles). places t gate) h.turns.shared.throttles ∙ f.throttles gate;
         counter = ap (λ (n : SeenNumbers). n.place) h.turns.shared.numbers ∙ f.counter;
       }
 
   -- ---- a step that is planned
 
   center_plans : (peer : ℕ) (x : PlanStep) (now : ℕ) (old last new behind : NodeNow D) → IsFitNode old → plain_node heard old ≡ plain_node heard last →
-      PlansIn (Ok tt) peer x now old.throttle.place old.center new.center → PlansIn (Ok tt) peer x now last.throttle.place last.center behind.center →
+      PlansIn (Ok tt) peer x now old.throttles old.center new.center → PlansIn (Ok tt) peer x now last.throttles last.center behind.center →
       plain_center heard new.center ≡ plain_center heard behind.center
   center_plans peer x now old last new behind f like h g =
       let center : plain_center heard old.center ≡ plain_center heard last.center = ap (λ (n : PlainNode). n.center) like in
@@ -141,18 +143,15 @@ module _ {D : Type 0} (E : Type 0) (heard : D → List Heard) where
       let all : map plain (slice_set old.center.records h.place h.behind) ≡ map plain (slice_set last.center.records g.place g.behind) =
       map_set plain old.center.records last.center.records h.place h.behind g.behind records side
       ∙ ap (λ (k : ℕ). map plain (slice_set last.center.records k g.behind)) place in
-      let word : new.center.bytes.word ≡ behind.center.bytes.word =
-      h.gives f.throttle
-      ∙ ap (λ (c : PlainCenter). c.bytes.word - returned_by (Some x) h.before) center
-      ∙ ap (λ (k : ℕ). last.center.bytes.word - k) (returned_same x h.before g.before before)
-      ∙ sym (g.gives (sym (ap (λ (n : PlainNode). n.throttle.place) like) ∙ f.throttle)) in
+      let word : words new.center.bytes ≡ words behind.center.bytes =
+      fun_ext (λ gate. h.gives gate (f.throttles gate)
+      ∙ ap (λ (c : PlainCenter). c.bytes gate - returned_by (Some x) h.before gate) center
+      ∙ ap (λ (k : ℕ). words last.center.bytes gate - k) (returned_same x h.before g.before before gate)
+      ∙ sym (g.gives gate (sym (ap (λ (n : PlainNode). places n.throttles gate) like) ∙ f.throttles gate))) in
       ap (plain_center heard) h.only
-      ∙ ap (λ (c : PlainCenter). record c { records = map plain (slice_set old.center.records h.place h.behind); bytes = bare_take new.center.bytes }) center
-      ∙ ap (λ (rs : List RecordNow). record (plain_center heard last.center) { records = rs; bytes = bare_take new.center.bytes }) all
-      ∙ ap (λ (n : ℕ). record (plain_center heard last.center) {
-        records = map plain (slice_set last.center.records g.place g.behind);
-        bytes = record (bare_take new.center.bytes) { word = n };
-      }) word
+      ∙ ap (λ (c : PlainCenter). record c { records = map plain (slice_set old.center.records h.place h.behind); bytes = words new.center.bytes }) center
+      ∙ ap (λ (rs : List RecordNow). record (plain_center heard last.center) { records = rs; bytes = words new.center.bytes }) all
+      ∙ ap (λ (n : Gate → ℕ). record (plain_center heard last.center) { records = map plain (slice_set last.center.records g.place g.behind); bytes = n }) word
       ∙ sym (ap (plain_center heard) g.only)
 
   plans : (peer : ℕ) (x : PlanStep) (now : ℕ) (old last new behind : NodeNow D) → IsFitNode old → plain_node heard old ≡ plain_node heard last → NodePlans (Ok tt) peer x now old new →
@@ -160,7 +159,7 @@ module _ {D : Type 0} (E : Type 0) (heard : D → List Heard) where
   plans peer x now old last new behind f like h g =
       node_of new behind (center_plans peer x now old last new behind f like h.plans g.plans)
       (h.shared.numbers ∙ ap (λ (n : PlainNode). n.numbers) like ∙ sym g.shared.numbers)
-      (h.shared.throttle ∙ ap (λ (n : PlainNode). n.throttle) like ∙ sym g.shared.throttle)
+      (h.shared.throttles ∙ ap (λ (n : PlainNode). n.throttles) like ∙ sym g.shared.throttles)
 
   plan_stays : (peer : ℕ) (x : PlanStep) (now : ℕ) (old new : NodeNow D) → IsFitNode old → NodePlans (Ok tt) peer x now old new → IsWholeNode new → IsFitNode new
   plan_stays peer x now old new f h whole =
@@ -170,7 +169,7 @@ module _ {D : Type 0} (E : Type 0) (heard : D → List Heard) where
         whole = whole;
         asked = subst (λ (c : CenterNow D). AllByRecursion IsAskedBehind c.records) (sym p.only)
             (all_set IsAskedBehind old.center.records p.place p.behind f.asked (planned_asked x now p.before p.behind before p.plans));
-        throttle = ap (λ (t : SeenThrottle). t.place) h.shared.throttle ∙ f.throttle;
+        throttles = λ gate. ap (λ (t : Throttles). places t gate) h.shared.throttles ∙ f.throttles gate;
         counter = ap (λ (n : SeenNumbers). n.place) h.shared.numbers ∙ f.counter;
       }
 

@@ -1,5 +1,6 @@
 -- Records that are alike take their turns alike, but for want of memory.
 use Rattle.std.proofs.Common.{◌≡◌, ℕ, ◌-◌, ◌<◌, ◌&&◌, ◌++◌, List, [], ◌∷◌, length, Bool, true, false, Option, None, Some, inl, inr, refl, sym, subst, ◌∙◌, ap, arith}
+use Rattle.std.proofs.Math.Path.{fun_ext}
 use Rattle.std.specs.Prelude.{◌≢◌, ◌⊎◌, nat_lt}
 use Rattle.std.specs.Option.{is_none, option_map}
 use Rattle.m2_dispatch.specs.Heard.{Heard}
@@ -9,8 +10,10 @@ use Rattle.m2_dispatch.specs.declared.parcel.Parcel.{Parcel}
 use Rattle.m2_dispatch.specs.declared.parcel.Parcel.TheVariants as parcel
 use Rattle.m2_dispatch.specs.m2_policy.declared.path.Path.{Path}
 use Rattle.m2_dispatch.specs.m2_policy.declared.path.Path.TheVariants.{Fast, Queued}
-use Rattle.m2_dispatch.specs.m2_shared.Place.{IsAlone}
-use Rattle.m2_dispatch.specs.m2_shared.Throttle.{SeenTakePass, SeenThrottle}
+use Rattle.m2_dispatch.specs.m2_shared.Gates.{Gate, places, words}
+use Rattle.m2_dispatch.specs.m2_shared.declared.stage.Stage.{Stage}
+use Rattle.m2_dispatch.specs.m2_shared.declared.throttles.TakePasses.{TakePasses}
+use Rattle.m2_dispatch.specs.m2_shared.declared.throttles.Throttles.{Throttles}
 use Rattle.m2_script.specs.m2_center.m2_turn.Outbox.{DispatchesOr, OutboxNow, Puts, PutsLetter, is_free, returned}
 use Rattle.m2_script.specs.m2_center.m2_turn.RecordTurn.{EndsBy, EndsWith, GivesHanded, LeadsOn, LedOn, Means, PutsHanded, Steps, TakesStep, Turning, TurnsAs, worked_by}
 use Rattle.m2_script.specs.m2_center.m2_turn.declared.outbox.TheConstants.{MOST_MAIL}
@@ -26,7 +29,8 @@ use Rattle.m2_script.specs.m2_center.m2_record.declared.stepped.Stepped.{Stepped
 use Rattle.m2_script.specs.m2_center.m2_record.declared.stepped.Stepped.TheVariants as stepped
 use Rattle.m2_exact.proofs.Staying as steps
 use Rattle.m2_exact.specs.Cores.{OnMemory, roomless_feed}
-use Rattle.m2_exact.specs.Records.{Done, Took, begun, bare_numbers, bare_take, plain}
+use Rattle.m2_exact.specs.Holding.{AreAlone}
+use Rattle.m2_exact.specs.Records.{Done, Took, begun, bare_numbers, plain}
 use Rattle.m2_exact.specs.RecordTurns.{HasAlone, IsFit, LikeRecordsTurnAlike, PlainOut, PlainTurning, Turned, plain_out, plain_turning}
 
 -- ---- fitness
@@ -69,9 +73,9 @@ handed_out (stepped.Hand x) o = put_out x o
 handed_out answer o = o
 
 -- what is given back for it
-abbrev handed_back : Stepped → ℕ → ℕ
-handed_back (stepped.Hand x) word = word - returned x None
-handed_back answer word = word
+abbrev handed_back : Stepped → (Gate → ℕ) → Gate → ℕ
+handed_back (stepped.Hand x) words gate = words gate - returned x None gate
+handed_back answer words gate = words gate
 
 module _ {D : Type 0} (heard : D → List Heard) where
   pub put_by : (l : Letter) (p : Path) (o new : OutboxNow D) → new.held ≡ None → PutsLetter heard l p o new → plain_out heard new ≡ put_letter l p (plain_out heard o)
@@ -91,23 +95,23 @@ module _ {D : Type 0} (heard : D → List Heard) where
   handed (stepped.Hand x) o new none h = put x o new none h
   handed stepped.Moved o new none h = ap (plain_out heard) h
   handed stepped.Dry o new none h = ap (plain_out heard) h
-  handed (stepped.Full _) o new none h = ap (plain_out heard) h
-  handed (stepped.Again _ _) o new none h = ap (plain_out heard) h
+  handed (stepped.Full stage out) o new none h = ap (plain_out heard) h
+  handed (stepped.Again stage seen now) o new none h = ap (plain_out heard) h
   handed stepped.Spent o new none h = ap (plain_out heard) h
   handed (stepped.Faulted _) o new none h = ap (plain_out heard) h
   handed stepped.NoMemory o new none h = ap (plain_out heard) h
 
-  given : (t : SeenThrottle) (a : Stepped) (o : OutboxNow D) (before behind : SeenTakePass) → IsAlone t.place → o.held ≡ None → GivesHanded t a o before behind →
-      behind.word ≡ handed_back a before.word
-  given t (stepped.Hand x) o before behind alone none h =
-      h alone ∙ ap (λ (l : Option Letter). before.word - returned x l) none
-  given t stepped.Moved o before behind alone none h = ap (λ (p : SeenTakePass). p.word) h
-  given t stepped.Dry o before behind alone none h = ap (λ (p : SeenTakePass). p.word) h
-  given t (stepped.Full _) o before behind alone none h = ap (λ (p : SeenTakePass). p.word) h
-  given t (stepped.Again _ _) o before behind alone none h = ap (λ (p : SeenTakePass). p.word) h
-  given t stepped.Spent o before behind alone none h = ap (λ (p : SeenTakePass). p.word) h
-  given t (stepped.Faulted _) o before behind alone none h = ap (λ (p : SeenTakePass). p.word) h
-  given t stepped.NoMemory o before behind alone none h = ap (λ (p : SeenTakePass). p.word) h
+  given : (t : Throttles) (a : Stepped) (o : OutboxNow D) (before behind : TakePasses) → AreAlone (places t) → o.held ≡ None → GivesHanded t a o before behind →
+      (gate : Gate) → words behind gate ≡ handed_back a (words before) gate
+  given t (stepped.Hand x) o before behind alone none h gate =
+      h gate (alone gate) ∙ ap (λ (l : Option Letter). words before gate - returned x l gate) none
+  given t stepped.Moved o before behind alone none h gate = ap (λ (p : TakePasses). words p gate) h
+  given t stepped.Dry o before behind alone none h gate = ap (λ (p : TakePasses). words p gate) h
+  given t (stepped.Full stage out) o before behind alone none h gate = ap (λ (p : TakePasses). words p gate) h
+  given t (stepped.Again stage seen now) o before behind alone none h gate = ap (λ (p : TakePasses). words p gate) h
+  given t stepped.Spent o before behind alone none h gate = ap (λ (p : TakePasses). words p gate) h
+  given t (stepped.Faulted cause) o before behind alone none h gate = ap (λ (p : TakePasses). words p gate) h
+  given t stepped.NoMemory o before behind alone none h gate = ap (λ (p : TakePasses). words p gate) h
 
   -- ---- one step
 
@@ -129,8 +133,8 @@ module _ {D : Type 0} (heard : D → List Heard) where
     step_one a b old last new behind f like h g =
         let w = worked_by m a h.takes.behind old new in
         let v = worked_by m b g.takes.behind last behind in
-        let begins : begun w ≡ begun v = ap (λ (t : PlainTurning). record { now = m.now; throttle = m.throttle; counter = m.counter; bytes = t.bytes; numbers = t.numbers }) like in
-        let both = steps.alike.steps w v old.side last.side new.side behind.side f.memory f.asked (record { throttle = alone.throttle; counter = alone.counter }) begins (ap (λ (t : PlainTurning). t.side) like)
+        let begins : begun w ≡ begun v = ap (λ (t : PlainTurning). record { now = m.now; throttles = m.throttles; counter = m.counter; bytes = t.bytes; numbers = t.numbers }) like in
+        let both = steps.alike.steps w v old.side last.side new.side behind.side f.memory f.asked (record { throttles = alone.throttles; counter = alone.counter }) begins (ap (λ (t : PlainTurning). t.side) like)
         (record { steps = h.takes.steps; memory = h.memory }) (record { steps = g.takes.steps; memory = g.memory }) in
         let answers : a ≡ b = ap (λ (d : Done). d.answer) both.0 in
         let out : plain_out heard new.out ≡ plain_out heard behind.out =
@@ -138,16 +142,16 @@ module _ {D : Type 0} (heard : D → List Heard) where
         ∙ ap (λ (x : Stepped). handed_out x (plain_out heard old.out)) answers
         ∙ ap (λ (t : PlainTurning). handed_out b t.out) like
         ∙ sym (handed b last.out behind.out g.none_held g.takes.puts) in
-        let words : new.bytes.word ≡ behind.bytes.word =
-        given m.throttle a new.out h.takes.behind new.bytes alone.throttle h.none_held h.takes.gives
-        ∙ ap (λ (x : Stepped). handed_back x h.takes.behind.word) answers
-        ∙ ap (λ (d : Done). handed_back b d.bytes.word) both.0
-        ∙ sym (given m.throttle b behind.out g.takes.behind behind.bytes alone.throttle g.none_held g.takes.gives) in (
+        let same : words new.bytes ≡ words behind.bytes =
+        fun_ext (λ gate. given m.throttles a new.out h.takes.behind new.bytes alone.throttles h.none_held h.takes.gives gate
+        ∙ ap (λ (x : Stepped). handed_back x (words h.takes.behind) gate) answers
+        ∙ ap (λ (d : Done). handed_back b d.bytes gate) both.0
+        ∙ sym (given m.throttles b behind.out g.takes.behind behind.bytes alone.throttles g.none_held g.takes.gives gate)) in (
           answers,
-          ap (λ (r : RecordNow). record { side = r; out = plain_out heard new.out; bytes = bare_take new.bytes; numbers = bare_numbers new.numbers }) both.1
-              ∙ ap (λ (o : PlainOut). record { side = plain behind.side; out = o; bytes = bare_take new.bytes; numbers = bare_numbers new.numbers }) out
-              ∙ ap (λ (n : ℕ). record { side = plain behind.side; out = plain_out heard behind.out; bytes = record (bare_take new.bytes) { word = n }; numbers = bare_numbers new.numbers }) words
-              ∙ ap (λ (d : Done). record { side = plain behind.side; out = plain_out heard behind.out; bytes = bare_take behind.bytes; numbers = d.numbers }) both.0,
+          ap (λ (r : RecordNow). record { side = r; out = plain_out heard new.out; bytes = words new.bytes; numbers = bare_numbers new.numbers }) both.1
+              ∙ ap (λ (o : PlainOut). record { side = plain behind.side; out = o; bytes = words new.bytes; numbers = bare_numbers new.numbers }) out
+              ∙ ap (λ (n : Gate → ℕ). record { side = plain behind.side; out = plain_out heard behind.out; bytes = n; numbers = bare_numbers new.numbers }) same
+              ∙ ap (λ (d : Done). record { side = plain behind.side; out = plain_out heard behind.out; bytes = words behind.bytes; numbers = d.numbers }) both.0,
         )
 
   -- ---- steps, one after another
@@ -212,8 +216,8 @@ module _ {D : Type 0} (heard : D → List Heard) where
   walks m turn.Busy old new h = (h.stood, busy m h.stood MOST_STEPS old new h.many h.steps)
   walks m turn.Stuck old new h = (h.led.stood, stuck m h.led.stood MOST_STEPS old new h.led.within h.full h.led.steps)
   walks m turn.Dry old new h = by_end m turn.Dry old new h
-  walks m (turn.Full n) old new h = by_end m (turn.Full n) old new h
-  walks m (turn.Again n k) old new h = by_end m (turn.Again n k) old new h
+  walks m (turn.Full stage n) old new h = by_end m (turn.Full stage n) old new h
+  walks m (turn.Again stage n k) old new h = by_end m (turn.Again stage n k) old new h
   walks m turn.Spent old new h = by_end m turn.Spent old new h
   walks m (turn.Faulted f) old new h = by_end m (turn.Faulted f) old new h
   walks m turn.NoMemory old new h = by_end m turn.NoMemory old new h
@@ -224,16 +228,17 @@ module _ {D : Type 0} (heard : D → List Heard) where
   turned_of stepped.Moved = turn.Busy
   turned_of (stepped.Hand x) = turn.Busy
   turned_of stepped.Dry = turn.Dry
-  turned_of (stepped.Full out) = turn.Full out
-  turned_of (stepped.Again seen at) = turn.Again seen at
+  turned_of (stepped.Full stage out) = turn.Full stage out
+  turned_of (stepped.Again stage seen at) = turn.Again stage seen at
   turned_of stepped.Spent = turn.Spent
   turned_of (stepped.Faulted f) = turn.Faulted f
   turned_of stepped.NoMemory = turn.NoMemory
 
   ends_so : (one : RecordTurn) (a : Stepped) → EndsWith one a → one ≡ turned_of a
   ends_so turn.Dry stepped.Dry e = refl
-  ends_so (turn.Full n) (stepped.Full out) e = ap (λ (x : ℕ). turn.Full x) e
-  ends_so (turn.Again n k) (stepped.Again was at) e = ap (λ (x : ℕ). turn.Again x k) e.0 ∙ ap (λ (x : ℕ). turn.Again was x) e.1
+  ends_so (turn.Full stage n) (stepped.Full full out) e = ap (λ (x : Stage). turn.Full x n) e.0 ∙ ap (λ (x : ℕ). turn.Full full x) e.1
+  ends_so (turn.Again stage n k) (stepped.Again changed was at) e =
+      ap (λ (x : Option Stage). turn.Again x n k) e.0 ∙ ap (λ (x : ℕ). turn.Again changed x k) e.1 ∙ ap (λ (x : ℕ). turn.Again changed was x) e.2
   ends_so turn.Spent stepped.Spent e = refl
   ends_so (turn.Faulted c) (stepped.Faulted f) e = ap (λ (x : WireFault). turn.Faulted x) e
   ends_so turn.NoMemory stepped.NoMemory e = refl
@@ -251,22 +256,22 @@ module _ {D : Type 0} (heard : D → List Heard) where
 
   ends : (one : RecordTurn) (a : Stepped) → EndsWith one a → leads_on a ≡ false
   ends one stepped.Dry e = refl
-  ends one (stepped.Full out) e = refl
-  ends one (stepped.Again was at) e = refl
+  ends one (stepped.Full stage out) e = refl
+  ends one (stepped.Again stage was at) e = refl
   ends one stepped.Spent e = refl
   ends one (stepped.Faulted f) e = refl
   ends one stepped.NoMemory e = refl
   ends turn.Dry stepped.Moved e = absurd e
-  ends (turn.Full n) stepped.Moved e = absurd e
-  ends (turn.Again n k) stepped.Moved e = absurd e
+  ends (turn.Full stage n) stepped.Moved e = absurd e
+  ends (turn.Again stage n k) stepped.Moved e = absurd e
   ends turn.Spent stepped.Moved e = absurd e
   ends (turn.Faulted f) stepped.Moved e = absurd e
   ends turn.Busy stepped.Moved e = absurd e
   ends turn.Stuck stepped.Moved e = absurd e
   ends turn.NoMemory stepped.Moved e = absurd e
   ends turn.Dry (stepped.Hand x) e = absurd e
-  ends (turn.Full n) (stepped.Hand x) e = absurd e
-  ends (turn.Again n k) (stepped.Hand x) e = absurd e
+  ends (turn.Full stage n) (stepped.Hand x) e = absurd e
+  ends (turn.Again stage n k) (stepped.Hand x) e = absurd e
   ends turn.Spent (stepped.Hand x) e = absurd e
   ends (turn.Faulted f) (stepped.Hand x) e = absurd e
   ends turn.Busy (stepped.Hand x) e = absurd e

@@ -1,5 +1,6 @@
 -- The records of two centers that are alike take their turns alike, one after another, but for want of memory.
 use Rattle.std.proofs.Common.{◌≡◌, ℕ, ◌-◌, ◌++◌, List, [], ◌∷◌, map, Bool, true, false, Option, None, Some, refl, sym, subst, ◌∙◌, ap}
+use Rattle.std.proofs.Math.Path.{fun_ext}
 use Rattle.std.specs.Prelude.{◌≢◌, IsSome}
 use Rattle.std.specs.List.{AllByRecursion}
 use Rattle.m2_dispatch.specs.Heard.{Heard}
@@ -7,8 +8,7 @@ use Rattle.m2_dispatch.specs.Letters.{heard_in}
 use Rattle.m2_dispatch.specs.declared.letter.Letter.{Letter}
 use Rattle.m2_dispatch.specs.m2_policy.declared.path.Path.TheVariants.{Fast}
 use Rattle.m2_dispatch.specs.m2_shared.Numbers.{SeenNumberPass}
-use Rattle.m2_dispatch.specs.m2_shared.Place.{IsAlone}
-use Rattle.m2_dispatch.specs.m2_shared.Throttle.{SeenTakePass}
+use Rattle.m2_dispatch.specs.m2_shared.Gates.{Gate, Return, places, words}
 use Rattle.m2_fabric.specs.Port.{SeenPort}
 use Rattle.m2_script.specs.m2_center.m2_turn.Outbox.{OutboxNow, RetriesFor, is_free, returned_again}
 use Rattle.m2_script.specs.m2_center.m2_turn.RecordTurn.{Means}
@@ -19,7 +19,8 @@ use Rattle.m2_script.specs.m2_center.m2_turn.declared.records_turn.RecordsTurn.T
 use Rattle.m2_script.specs.m2_center.m2_record.RecordNow.{RecordNow}
 use Rattle.m2_exact.proofs.Dialing as dialing
 use Rattle.m2_exact.proofs.RecordTurns as turns
-use Rattle.m2_exact.specs.Records.{bare_numbers, bare_take, plain}
+use Rattle.m2_exact.specs.Holding.{AreAlone}
+use Rattle.m2_exact.specs.Records.{bare_numbers, plain}
 use Rattle.m2_exact.specs.RecordTurns.{HasAlone, IsFit, PlainOut, PlainTurning, Turned, plain_out, plain_turning}
 use Rattle.m2_exact.specs.RecordsTurns.{AreFit, IsFitAt, LikeAllRecordsTurnAlike, PlainAll, PlainAt, plain_all, plain_at}
 use Rattle.m2_fabric.proofs.m2_lemmas.Lists.{cons_same}
@@ -28,7 +29,7 @@ use Rattle.m2_fabric.proofs.m2_lemmas.Lists.{cons_same}
 record PlainAround : Type 0 where
   pub port : SeenPort
   pub out : PlainOut
-  pub bytes : SeenTakePass
+  pub bytes : Gate → ℕ
   pub numbers : SeenNumberPass
 
 -- for want of memory alone the turn of all ends early
@@ -37,7 +38,7 @@ done_memory r e is = absurd (cc (e ∙ ap come_to is))
 
 module _ {D : Type 0} (heard : D → List Heard) (m : Means) where
   abbrev plain_around : Around D → PlainAround
-  plain_around a = record { port = a.port; out = plain_out heard a.out; bytes = bare_take a.bytes; numbers = bare_numbers a.numbers }
+  plain_around a = record { port = a.port; out = plain_out heard a.out; bytes = words a.bytes; numbers = bare_numbers a.numbers }
 
   -- ---- the letter that was held
 
@@ -49,26 +50,26 @@ module _ {D : Type 0} (heard : D → List Heard) (m : Means) where
   retries (Some l) o new none h = turns.put_by heard l Fast o new none h
   retries None o new none h = ap (plain_out heard) h
 
-  around_of : (a b : Around D) → a.port ≡ b.port → plain_out heard a.out ≡ plain_out heard b.out → a.bytes.word ≡ b.bytes.word → bare_numbers a.numbers ≡ bare_numbers b.numbers → plain_around a ≡ plain_around b
+  around_of : (a b : Around D) → a.port ≡ b.port → plain_out heard a.out ≡ plain_out heard b.out → words a.bytes ≡ words b.bytes → bare_numbers a.numbers ≡ bare_numbers b.numbers → plain_around a ≡ plain_around b
   around_of a b port out word numbers =
       ap (λ (p : SeenPort). record (plain_around a) { port = p }) port
       ∙ ap (λ (o : PlainOut). record (plain_around a) { port = b.port; out = o }) out
-      ∙ ap (λ (n : ℕ). record (plain_around a) { port = b.port; out = plain_out heard b.out; bytes = record (bare_take a.bytes) { word = n } }) word
+      ∙ ap (λ (n : Gate → ℕ). record (plain_around a) { port = b.port; out = plain_out heard b.out; bytes = n }) word
       ∙ ap (λ (n : SeenNumberPass). record (plain_around b) { numbers = n }) numbers
 
-  retried_one : (a b new behind : Around D) → IsAlone m.throttle.place → plain_around a ≡ plain_around b → new.out.held ≡ None → behind.out.held ≡ None →
+  retried_one : (a b new behind : Around D) → AreAlone (places m.throttles) → plain_around a ≡ plain_around b → new.out.held ≡ None → behind.out.held ≡ None →
       RetriesFor heard a.out.held a.out new.out → RetriesFor heard b.out.held b.out behind.out →
-      new.bytes.word ≡ a.bytes.word - returned_again a.out.held new.out.held → behind.bytes.word ≡ b.bytes.word - returned_again b.out.held behind.out.held →
+      Return (returned_again a.out.held new.out.held) m.throttles a.bytes new.bytes → Return (returned_again b.out.held behind.out.held) m.throttles b.bytes behind.bytes →
       new ≡ record a { out = new.out; bytes = new.bytes } → behind ≡ record b { out = behind.out; bytes = behind.bytes } → plain_around new ≡ plain_around behind
   retried_one a b new behind alone like none held h g gives gave only last =
       let out : plain_out heard new.out ≡ plain_out heard behind.out =
       retries a.out.held a.out new.out none h ∙ ap (λ (x : PlainAround). retried_out x.out.held x.out) like ∙ sym (retries b.out.held b.out behind.out held g) in
-      let word : new.bytes.word ≡ behind.bytes.word =
-      gives
-      ∙ ap (λ (l : Option Letter). a.bytes.word - returned_again a.out.held l) none
-      ∙ ap (λ (x : PlainAround). x.bytes.word - returned_again x.out.held None) like
-      ∙ sym (ap (λ (l : Option Letter). b.bytes.word - returned_again b.out.held l) held)
-      ∙ sym gave in
+      let word : words new.bytes ≡ words behind.bytes =
+      fun_ext (λ gate. gives gate (alone gate)
+      ∙ ap (λ (l : Option Letter). words a.bytes gate - returned_again a.out.held l gate) none
+      ∙ ap (λ (x : PlainAround). x.bytes gate - returned_again x.out.held None gate) like
+      ∙ sym (ap (λ (l : Option Letter). words b.bytes gate - returned_again b.out.held l gate) held)
+      ∙ sym (gave gate (alone gate))) in
       around_of new behind (ap (λ (x : Around D). x.port) only ∙ ap (λ (x : PlainAround). x.port) like ∙ sym (ap (λ (x : Around D). x.port) last)) out word
       (ap (λ (x : Around D). bare_numbers x.numbers) only ∙ ap (λ (x : PlainAround). x.numbers) like ∙ sym (ap (λ (x : Around D). bare_numbers x.numbers) last))
 
@@ -90,7 +91,7 @@ module _ {D : Type 0} (heard : D → List Heard) (m : Means) where
       let mid = dialing.alike.dials m.now (at_port old) (at_port last) h.mid g.mid (fit_at old f some) at h.dials g.dials in
       let fit = dialing.alike.stays m.now (at_port old) h.mid (fit_at old f some) h.dials in
       let begins : plain_turning heard (turning_amid h.mid.side old.around) ≡ plain_turning heard (turning_amid g.mid.side last.around) =
-      ap (λ (x : PlainAt). record { side = x.side; out = plain_out heard old.around.out; bytes = bare_take old.around.bytes; numbers = bare_numbers old.around.numbers }) mid
+      ap (λ (x : PlainAt). record { side = x.side; out = plain_out heard old.around.out; bytes = words old.around.bytes; numbers = bare_numbers old.around.numbers }) mid
       ∙ ap (λ (x : PlainAround). record { side = plain g.mid.side; out = x.out; bytes = x.bytes; numbers = x.numbers }) like.around in
       let first : Turned heard m h.ended (turning_amid h.mid.side old.around) (turning_amid new.side new.around) = record { turns = h.turns; memory = done_memory h.ended h.comes; none_held = none } in
       let second : Turned heard m g.ended (turning_amid g.mid.side last.around) (turning_amid behind.side behind.around) = record { turns = g.turns; memory = done_memory g.ended g.comes; none_held = held } in
@@ -99,7 +100,7 @@ module _ {D : Type 0} (heard : D → List Heard) (m : Means) where
       record {
         side = ap (λ (t : PlainTurning). t.side) both.1;
         around = around_of new.around behind.around (h.port ∙ ap (λ (x : PlainAt). x.port) mid ∙ sym g.port) (ap (λ (t : PlainTurning). t.out) both.1)
-            (ap (λ (t : PlainTurning). t.bytes.word) both.1) (ap (λ (t : PlainTurning). t.numbers) both.1);
+            (ap (λ (t : PlainTurning). t.bytes) both.1) (ap (λ (t : PlainTurning). t.numbers) both.1);
       }
 
   same_amid : (old last new behind : Amid D) → Alike old last → new ≡ old → behind ≡ last → Alike new behind
@@ -186,7 +187,7 @@ module _ {D : Type 0} (heard : D → List Heard) (m : Means) where
       let around : plain_around old.around ≡ plain_around last.around = ap (λ (x : PlainAll). record { port = x.port; out = x.out; bytes = x.bytes; numbers = x.numbers }) like in
       let first = none_before old.records h.turns.stood h.retried new.around h.turns.turns none in
       let second = none_before last.records g.turns.stood g.retried behind.around g.turns.turns held in
-      let retried = retried_one old.around last.around h.retried g.retried alone.throttle around first second h.retries g.retries (h.gives alone.throttle) (g.gives alone.throttle) h.only g.only in
+      let retried = retried_one old.around last.around h.retried g.retried alone.throttles around first second h.retries g.retries h.gives g.gives h.only g.only in
       let both = each old.records last.records h.turns.stood g.turns.stood h.retried g.retried new.around behind.around alone f.records
       (subst (λ (x : Around D). IsSome x.port.waiting) (sym h.only) f.port) (ap (λ (x : PlainAll). x.records) like) retried h.turns.turns g.turns.turns none held in
       let records : map plain new.records ≡ map plain behind.records = ap (map plain) h.turns.records ∙ both.0 ∙ sym (ap (map plain) g.turns.records) in

@@ -26,8 +26,10 @@ use Rattle.m2_script.specs.m2_center.Center.{CenterNow}
 use Rattle.m2_script.specs.m2_center.Making.{new_center}
 use Rattle.m2_script.specs.m2_cluster.Node.{NodeNow}
 use Rattle.m2_dispatch.specs.m2_shared.Numbers.{SeenNumbers}
-use Rattle.m2_dispatch.specs.m2_shared.Throttle.{SeenThrottle}
+use Rattle.m2_dispatch.specs.m2_shared.Gates.{places}
+use Rattle.m2_dispatch.specs.m2_shared.declared.throttles.Throttles.{Throttles}
 use Rattle.m2_script.specs.m2_center.m2_record.RecordNow.{RecordNow}
+use Rattle.m2_exact.proofs.Alone.{alone_places}
 use Rattle.m2_exact.proofs.Deeds as deeds
 use Rattle.m2_exact.proofs.Lists.{by_places, mapped_twice, said_at, there_too}
 use Rattle.m2_exact.specs.Centers.{PlainCenter, plain_center}
@@ -57,8 +59,8 @@ node_new : (nodes : List Node) (links : List Link) (lines : List Line) (k : ℕ)
     plain_node heard_by n ≡ plain_node heard_by m
 node_new nodes links lines k x n m h g =
     ap (λ (c : PlainCenter). record (plain_node heard_by n) { center = c }) (center_new nodes links lines k x n m h g)
-    ∙ ap (λ (c : SeenNumbers). record { center = plain_center heard_by m.center; numbers = c; throttle = n.throttle }) (h.numbers ∙ sym g.numbers)
-    ∙ ap (λ (t : SeenThrottle). record (plain_node heard_by m) { throttle = t }) (h.throttle ∙ sym g.throttle)
+    ∙ ap (λ (c : SeenNumbers). record { center = plain_center heard_by m.center; numbers = c; throttles = n.throttles }) (h.numbers ∙ sym g.numbers)
+    ∙ ap (λ (t : Throttles). record (plain_node heard_by m) { throttles = t }) (h.throttles ∙ sym g.throttles)
 
 first_alike : (nodes : List Node) (links : List Link) (lines : List Line) (s t : RunNow (List Logged)) → IsFirst nodes links lines s → IsFirst nodes links lines t → AreAlike heard_by s t
 first_alike nodes links lines s t h g =
@@ -102,7 +104,7 @@ first_fit nodes links lines s h = all_by_places IsFitNode s.cluster.nodes at
       whole = new.whole;
       asked = subst (AllByRecursion IsAskedBehind) (sym (ap (λ c. c.records) new.center))
           (all_of_map IsAskedBehind roomless new.records (subst (AllByRecursion IsAskedBehind) (sym new.over) (made_asked nodes k (k + 1) links)));
-      throttle = ap (λ (t : SeenThrottle). t.place) new.throttle;
+      throttles = alone_places (places n.throttles) x.throttle (λ gate. ap (λ (t : Throttles). places t gate) new.throttles);
       counter = ap (λ (c : SeenNumbers). c.place) new.numbers;
     }
 

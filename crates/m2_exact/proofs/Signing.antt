@@ -241,9 +241,9 @@ same_live c new e m = subst (λ (z : CoreNow). IsAsked z.live) (sym e) m
 
 nexts : (t : Throttled) (a : CoreNext) (f : FrontHeard) (c new : CoreNow) → IsAsked c.live → IsNext t a f c new → IsAsked new.live
 nexts t next.Rests front.rests c new m h = same_live c new h m
-nexts t next.Granted (front.asks n) c new m h = subst (λ (z : CoreNow). IsAsked z.live) (sym h.1.only) (grants c.live.session.phase c.live.feed m)
-nexts t (next.Full held) (front.asks n) c new m h = same_live c new h.1 m
-nexts t (next.Again seen now) (front.asks n) c new m h = same_live c new h.1 m
+nexts t next.Granted (front.asks n) c new m h = subst (λ (z : CoreNow). IsAsked z.live) (sym h.only) (grants c.live.session.phase c.live.feed m)
+nexts t (next.Full stage held) (front.asks n) c new m h = subst (λ (x : CoreNow). IsAsked x.live) (sym h.only) m
+nexts t (next.Again stage seen now) (front.asks n) c new m h = subst (λ (x : CoreNow). IsAsked x.live) (sym h.only) m
 nexts t next.Passed (front.tells heard.Nothing) c new m h = signed new.live.session.phase new.live.feed (passes_item h.passes.item c.live.feed new.live.feed h.passes.passes)
 nexts t next.Passed (front.tells (heard.Stamp k)) c new m h = signed new.live.session.phase new.live.feed (stamps _ k c.live.feed new.live.feed h.stamps)
 nexts t next.NoMemory (front.tells (heard.Stamp k)) c new m h = same_live c new h m
@@ -270,8 +270,8 @@ heeds t (framed.Acked n) now r new m h = at_front t (next.Acked n) r.core new.co
 heeds t (framed.Accepted n) now r new m (a, is, h, only) = at_front t (next.Accepted a) r.core new.core m h
 heeds t (framed.Obeyed full) now r new m h = at_front t (next.Resets full) r.core new.core m h.0
 heeds t (framed.Faulted cause) now r new m h = breaks now r new h.1
-heeds t (framed.Full out) now r new m h = on r new _ h.1 m
-heeds t (framed.Again seen at) now r new m h = on r new _ h.1 m
+heeds t (framed.Full stage out) now r new m h = at_front t (next.Full stage out) r.core new.core m h.0
+heeds t (framed.Again stage seen at) now r new m h = at_front t (next.Again stage seen at) r.core new.core m h.0
 heeds t framed.NoMemory now r new m h = on r new _ h.1 m
 
 shakes : (a : HalfStep) (r new : RecordNow) → IsAsked r.core.live → Shakes a r new → IsAsked new.core.live
@@ -293,8 +293,8 @@ frames t framed.Granted now r new m h = heeds t framed.Granted now r new m h
 frames t (framed.Acked n) now r new m h = heeds t (framed.Acked n) now r new m h
 frames t (framed.Accepted n) now r new m h = heeds t (framed.Accepted n) now r new m h
 frames t (framed.Faulted cause) now r new m h = heeds t (framed.Faulted cause) now r new m h
-frames t (framed.Full out) now r new m h = heeds t (framed.Full out) now r new m h
-frames t (framed.Again seen at) now r new m h = heeds t (framed.Again seen at) now r new m h
+frames t (framed.Full stage out) now r new m h = heeds t (framed.Full stage out) now r new m h
+frames t (framed.Again stage seen at) now r new m h = heeds t (framed.Again stage seen at) now r new m h
 frames t framed.NoMemory now r new m h = heeds t framed.NoMemory now r new m h
 
 -- ---- what is composed

@@ -122,9 +122,9 @@ ends_read None h now r new m e = counts_answer h r new m e
 
 nexts : (t : Throttled) (a : CoreNext) (f : FrontHeard) (c new : CoreNow) → FeedIsInMemory c → IsNext t a f c new → FeedIsInMemory new
 nexts t next.Rests rests c new m h = subst FeedIsInMemory (sym h) m
-nexts t next.Granted (asks n) c new m h = subst FeedIsInMemory (sym h.1.only) (grants c.live.feed m)
-nexts t (next.Full held) (asks n) c new m h = subst FeedIsInMemory (sym h.1) m
-nexts t (next.Again seen now) (asks n) c new m h = subst FeedIsInMemory (sym h.1) m
+nexts t next.Granted (asks n) c new m h = subst FeedIsInMemory (sym h.only) (grants c.live.feed m)
+nexts t (next.Full stage held) (asks n) c new m h = subst FeedIsInMemory (sym h.only) m
+nexts t (next.Again stage seen now) (asks n) c new m h = subst FeedIsInMemory (sym h.only) m
 nexts t next.Passed (tells heard.Nothing) c new m h = passes h.passes.item c.live.feed new.live.feed m h.passes.passes
 nexts t next.Passed (tells (heard.Stamp k)) c new m h = stamps _ k c.live.feed new.live.feed m h.stamps
 nexts t next.NoMemory (tells (heard.Stamp k)) c new m h = subst FeedIsInMemory (sym h) m
@@ -150,8 +150,8 @@ heeds t (framed.Acked n) now r new m h = at_front t (next.Acked n) r.core new.co
 heeds t (framed.Accepted n) now r new m (a, is, h, only) = at_front t (next.Accepted a) r.core new.core m h
 heeds t (framed.Obeyed full) now r new m h = at_front t (next.Resets full) r.core new.core m h.0
 heeds t (framed.Faulted cause) now r new m h = breaks now r new m h.1
-heeds t (framed.Full out) now r new m h = on r new _ h.1 m
-heeds t (framed.Again seen at) now r new m h = on r new _ h.1 m
+heeds t (framed.Full stage out) now r new m h = at_front t (next.Full stage out) r.core new.core m h.0
+heeds t (framed.Again stage seen at) now r new m h = at_front t (next.Again stage seen at) r.core new.core m h.0
 heeds t framed.NoMemory now r new m h = on r new _ h.1 m
 
 shakes : (a : HalfStep) (r new : RecordNow) → FeedIsInMemory r.core → Shakes a r new → FeedIsInMemory new.core
@@ -174,8 +174,8 @@ frames t framed.Granted now r new m h = heeds t framed.Granted now r new m h
 frames t (framed.Acked n) now r new m h = heeds t (framed.Acked n) now r new m h
 frames t (framed.Accepted n) now r new m h = heeds t (framed.Accepted n) now r new m h
 frames t (framed.Faulted cause) now r new m h = heeds t (framed.Faulted cause) now r new m h
-frames t (framed.Full out) now r new m h = heeds t (framed.Full out) now r new m h
-frames t (framed.Again seen at) now r new m h = heeds t (framed.Again seen at) now r new m h
+frames t (framed.Full stage out) now r new m h = heeds t (framed.Full stage out) now r new m h
+frames t (framed.Again stage seen at) now r new m h = heeds t (framed.Again stage seen at) now r new m h
 frames t framed.NoMemory now r new m h = heeds t framed.NoMemory now r new m h
 
 -- ---- a step

@@ -1,5 +1,6 @@
 -- Records that are alike step alike, but for want of memory.
-use Rattle.std.proofs.Common.{◌≡◌, ℕ, ◌+◌, ◌-◌, ◌++◌, List, Bool, true, false, if◌then◌else◌, Option, None, Some, Result, Ok, Err, refl, sym, subst, ◌∙◌, ap}
+use Rattle.std.proofs.Common.{◌≡◌, ℕ, ◌+◌, ◌-◌, ◌++◌, List, Bool, true, false, if◌then◌else◌, Option, None, Some, Result, Ok, Err, refl, sym, subst, ◌∙◌, ap, arith}
+use Rattle.std.proofs.Math.Path.{fun_ext}
 use Rattle.std.specs.Prelude.{◌≢◌, IfSome}
 use Rattle.std.specs.Option.{is_some, option_map, option_to_list}
 use Rattle.m2_fabric.specs.m2_bytes.declared.memory.NoMemory as memory
@@ -7,13 +8,16 @@ use Rattle.m2_script.specs.m2_center.m2_core.CoreNow.{CoreNow, IsAskedIfSigned}
 use Rattle.m2_script.specs.m2_center.m2_core.Counting.{CountsIf, to_count}
 use Rattle.m2_script.specs.m2_center.m2_core.Hearing.{ReadNow}
 use Rattle.m2_script.specs.m2_center.m2_core.LiveHearing.{raised_by}
-use Rattle.m2_script.specs.m2_center.m2_core.LiveNow as live
+use Rattle.m2_script.specs.m2_center.m2_core.Granting.{Throttled}
 use Rattle.m2_script.specs.m2_center.m2_core.ToCompose.{to_compose}
 use Rattle.m2_script.specs.m2_center.m2_core.declared.to_compose.CoreText.{CoreText}
 use Rattle.m2_dispatch.specs.declared.parcel.Parcel.{Parcel}
 use Rattle.m2_dispatch.specs.m2_shared.Numbers.{SeenNumberPass}
+use Rattle.m2_dispatch.specs.m2_shared.Gates.{Gate, Keep, Return, Stay, held, places, words}
 use Rattle.m2_dispatch.specs.m2_shared.Place.{IsAlone}
-use Rattle.m2_dispatch.specs.m2_shared.Throttle.{SeenTakePass, SeenThrottle}
+use Rattle.m2_dispatch.specs.m2_shared.declared.peer_grants.PeerGrants.{PeerGrants}
+use Rattle.m2_dispatch.specs.m2_shared.declared.throttles.TakePasses.{TakePasses}
+use Rattle.m2_dispatch.specs.m2_shared.declared.throttles.Throttles.{Throttles}
 use Rattle.m2_fabric.specs.End.{SeenEnd}
 use Rattle.m2_fabric.specs.declared.end.EndRead.{EndRead}
 use Rattle.m2_fabric.specs.declared.end.EndRead.TheVariants as read
@@ -32,7 +36,7 @@ use Rattle.m2_script.specs.m2_center.m2_record.IsRecord.{no_room}
 use Rattle.m2_script.specs.m2_center.m2_record.Reading.{CountsAnswer, EndsRead, Reads, ReadsFeedOnce, answer_read, fault_read, held_read, moment_read, read_entries, waits_read}
 use Rattle.m2_script.specs.m2_center.m2_record.RecordNow.{RecordNow}
 use Rattle.m2_script.specs.m2_center.m2_record.Stepping.{GivesBack, HandsAs, PlansAs, Rests, StepsAs, StepsBy, StepsCompose, StepsFrame, StepsHand, StepsPlan, StepsRead, StepsWrite, TakesDue, Worked, answer_composed, answer_framed, answer_planned, answer_put, returned_planned}
-use Rattle.m2_script.specs.m2_center.m2_record.Framing.{Frames, word_framed}
+use Rattle.m2_script.specs.m2_center.m2_record.Framing.{Frames, WordsFramed}
 use Rattle.m2_script.specs.m2_center.m2_record.declared.composing.Composed.{Composed}
 use Rattle.m2_script.specs.m2_center.m2_record.declared.composing.Composed.TheVariants as composed
 use Rattle.m2_script.specs.m2_center.m2_record.declared.due.Due.{Due}
@@ -49,7 +53,8 @@ use Rattle.m2_exact.proofs.Framing as framing
 use Rattle.m2_exact.proofs.Nexts as nexts
 use Rattle.m2_exact.proofs.Plain as calls
 use Rattle.m2_exact.specs.Cores.{FeedIsInMemory, roomless, roomless_feed}
-use Rattle.m2_exact.specs.Records.{AreAlone, Begun, Took, bare_numbers, bare_take, begun, done, plain}
+use Rattle.m2_exact.specs.Holding.{AreAlone}
+use Rattle.m2_exact.specs.Records.{Begun, Took, WorkIsAlone, bare_numbers, begun, done, plain}
 use Rattle.m2_fabric.proofs.m2_lemmas.Lists.{cons_same}
 
 -- ---- which step is due
@@ -222,49 +227,79 @@ returned_plain r (Some step.Dial) = refl
 returned_plain r (Some (step.Post p)) = refl
 returned_plain r None = refl
 
+-- ---- what an answer leaves of the words
+
+module _ (t u : Throttled) (before behind : Gate → ℕ) (alone : AreAlone (places t.throttles)) (here : AreAlone (places u.throttles)) (same : (gate : Gate) → words t.before gate ≡ words u.before gate) where
+  kept : Keep before behind t.throttles t.before t.behind → Keep before behind u.throttles u.before u.behind → (gate : Gate) → words t.behind gate ≡ words u.behind gate
+  kept h g gate = let one = h gate (alone gate) in let other = g gate (here gate) in let was = same gate in omega (arith, one, other, was)
+
+  returned : Return before t.throttles t.before t.behind → Return before u.throttles u.before u.behind → (gate : Gate) → words t.behind gate ≡ words u.behind gate
+  returned h g gate = let one = h gate (alone gate) in let other = g gate (here gate) in let was = same gate in omega (arith, one, other, was)
+
+  stayed : Stay t.throttles t.before t.behind → Stay u.throttles u.before u.behind → (gate : Gate) → words t.behind gate ≡ words u.behind gate
+  stayed h g gate = let one = h gate (alone gate) in let other = g gate (here gate) in let was = same gate in omega (arith, one, other, was)
+
+framed_words : (f : Framed) (t u : Throttled) (before behind : Gate → ℕ) → AreAlone (places t.throttles) → AreAlone (places u.throttles) → ((gate : Gate) → words t.before gate ≡ words u.before gate) →
+    WordsFramed f t before behind → WordsFramed f u before behind → (gate : Gate) → words t.behind gate ≡ words u.behind gate
+framed_words framed.Granted t u before behind alone here same h g = kept t u before behind alone here same h g
+framed_words (framed.Full stage out) t u before behind alone here same h g = kept t u before behind alone here same h g
+framed_words (framed.Again stage seen now) t u before behind alone here same h g = kept t u before behind alone here same h g
+framed_words framed.Passed t u before behind alone here same h g = returned t u before behind alone here same h g
+framed_words (framed.Faulted cause) t u before behind alone here same h g = returned t u before behind alone here same h g
+framed_words (framed.Half (half.Fault e)) t u before behind alone here same h g = returned t u before behind alone here same h g
+framed_words (framed.Half half.NotYet) t u before behind alone here same h g = stayed t u before behind alone here same h g
+framed_words (framed.Half half.Wrote) t u before behind alone here same h g = stayed t u before behind alone here same h g
+framed_words (framed.Half half.Authed) t u before behind alone here same h g = stayed t u before behind alone here same h g
+framed_words (framed.Half half.NoMemory) t u before behind alone here same h g = stayed t u before behind alone here same h g
+framed_words (framed.Acked number) t u before behind alone here same h g = stayed t u before behind alone here same h g
+framed_words (framed.Accepted number) t u before behind alone here same h g = stayed t u before behind alone here same h g
+framed_words (framed.Obeyed full) t u before behind alone here same h g = stayed t u before behind alone here same h g
+framed_words framed.NoMemory t u before behind alone here same h g = stayed t u before behind alone here same h g
+
 -- ---- the rows
 
 -- two steps that begin alike
-module _ (w v : Worked) (alone : AreAlone w) (like : begun w ≡ begun v) (m : w.answer ≢ stepped.NoMemory) (k : v.answer ≢ stepped.NoMemory) (r s new behind : RecordNow) (same : plain r ≡ plain s) where
+module _ (w v : Worked) (alone : WorkIsAlone w) (like : begun w ≡ begun v) (m : w.answer ≢ stepped.NoMemory) (k : v.answer ≢ stepped.NoMemory) (r s new behind : RecordNow) (same : plain r ≡ plain s) where
   now : w.now ≡ v.now
   now = ap (λ (b : Begun). b.now) like
 
-  throttle : w.bytes.throttle ≡ v.bytes.throttle
-  throttle = ap (λ (b : Begun). b.throttle) like
+  same_throttles : w.bytes.throttles ≡ v.bytes.throttles
+  same_throttles = ap (λ (b : Begun). b.throttles) like
 
-  word : w.bytes.before.word ≡ v.bytes.before.word
-  word = ap (λ (b : Begun). b.bytes.word) like
+  word : (gate : Gate) → words w.bytes.before gate ≡ words v.bytes.before gate
+  word gate = ap (λ (b : Begun). b.bytes gate) like
 
   numbers : bare_numbers w.numbers.before ≡ bare_numbers v.numbers.before
   numbers = ap (λ (b : Begun). b.numbers) like
 
-  here : IsAlone v.bytes.throttle.place
-  here = subst (λ (t : SeenThrottle). IsAlone t.place) throttle alone.throttle
+  here : AreAlone (places v.bytes.throttles)
+  here gate = sym (ap (λ (t : Throttles). places t gate) same_throttles) ∙ alone.throttles gate
 
   there : IsAlone v.numbers.place
   there = subst IsAlone (ap (λ (b : Begun). b.counter) like) alone.counter
 
-  held : live.held r.core.live.granted ≡ live.held s.core.live.granted
-  held = ap (λ (x : RecordNow). live.held x.core.live.granted) same
+  held_same : r.core.live.granted ≡ s.core.live.granted
+  held_same = ap (λ (x : RecordNow). x.core.live.granted) same
 
   throttles : nexts.LikeThrottles w.bytes v.bytes
-  throttles = record { alone = alone.throttle; throttle = throttle; word = word }
+  throttles = record { alone = alone.throttles; throttles = same_throttles; word = word }
 
   -- what they come to, by its parts
-  comes : w.answer ≡ v.answer → w.bytes.behind.word ≡ v.bytes.behind.word → bare_numbers w.numbers.behind ≡ bare_numbers v.numbers.behind → done w ≡ done v
+  comes : w.answer ≡ v.answer → ((gate : Gate) → words w.bytes.behind gate ≡ words v.bytes.behind gate) → bare_numbers w.numbers.behind ≡ bare_numbers v.numbers.behind → done w ≡ done v
   comes a b n =
-      ap (λ (x : Stepped). record { answer = x; bytes = bare_take w.bytes.behind; numbers = bare_numbers w.numbers.behind }) a
-      ∙ ap (λ (x : ℕ). record { answer = v.answer; bytes = record (bare_take w.bytes.behind) { word = x }; numbers = bare_numbers w.numbers.behind }) b
-      ∙ ap (λ (x : SeenNumberPass). record { answer = v.answer; bytes = bare_take v.bytes.behind; numbers = x }) n
+      ap (λ (x : Stepped). record { answer = x; bytes = words w.bytes.behind; numbers = bare_numbers w.numbers.behind }) a
+      ∙ ap (λ (x : Gate → ℕ). record { answer = v.answer; bytes = x; numbers = bare_numbers w.numbers.behind }) (fun_ext b)
+      ∙ ap (λ (x : SeenNumberPass). record { answer = v.answer; bytes = words v.bytes.behind; numbers = x }) n
 
-  took_nothing : w.bytes.behind ≡ w.bytes.before → v.bytes.behind ≡ v.bytes.before → w.bytes.behind.word ≡ v.bytes.behind.word
-  took_nothing h g = ap (λ (p : SeenTakePass). p.word) h ∙ word ∙ sym (ap (λ (p : SeenTakePass). p.word) g)
+  took_nothing : w.bytes.behind ≡ w.bytes.before → v.bytes.behind ≡ v.bytes.before → (gate : Gate) → words w.bytes.behind gate ≡ words v.bytes.behind gate
+  took_nothing h g gate = ap (λ (p : TakePasses). words p gate) h ∙ word gate ∙ sym (ap (λ (p : TakePasses). words p gate) g)
 
   drew_nothing : w.numbers.behind ≡ w.numbers.before → v.numbers.behind ≡ v.numbers.before → bare_numbers w.numbers.behind ≡ bare_numbers v.numbers.behind
   drew_nothing h g = ap bare_numbers h ∙ numbers ∙ sym (ap bare_numbers g)
 
-  gave_back : (i j : ℕ) → i ≡ j → GivesBack i w.bytes → GivesBack j v.bytes → w.bytes.behind.word ≡ v.bytes.behind.word
-  gave_back i j e h g = h alone.throttle ∙ ap (λ (x : ℕ). x - i) word ∙ ap (λ (x : ℕ). v.bytes.before.word - x) e ∙ sym (g here)
+  gave_back : (i j : Gate → ℕ) → i ≡ j → GivesBack i w.bytes → GivesBack j v.bytes → (gate : Gate) → words w.bytes.behind gate ≡ words v.bytes.behind gate
+  gave_back i j e h g gate =
+      h gate (alone.throttles gate) ∙ ap (λ (x : ℕ). x - i gate) (word gate) ∙ ap (λ (n : Gate → ℕ). words v.bytes.before gate - n gate) e ∙ sym (g gate (here gate))
 
   answered : (a b : Stepped) → w.answer ≡ a → v.answer ≡ b → a ≡ b → w.answer ≡ v.answer
   answered a b h g e = h ∙ e ∙ sym g
@@ -304,7 +339,7 @@ module _ (w v : Worked) (alone : AreAlone w) (like : begun w ≡ begun v) (m : w
   fault_returned f g e = by f ∙ ap (λ (x : Option WireFault). returned_for x s) e
     where
       by : (f : Option WireFault) → returned_for f r ≡ returned_for f s
-      by (Some f) = held
+      by (Some f) = ap held held_same
       by None = refl
 
   step_write : FeedIsInMemory r.core → StepsWrite w r new → StepsWrite v s behind → (done w ≡ done v) × (plain new ≡ plain behind)
@@ -361,15 +396,15 @@ module _ (w v : Worked) (alone : AreAlone w) (like : begun w ≡ begun v) (m : w
   step_frame asked h g =
       let both = framing.frames_one w.bytes v.bytes throttles w.now r s new behind asked same h.framed g.framed (framed_memory h.framed (λ e. m (h.answers ∙ e))) (framed_memory g.framed (λ e. k (g.answers ∙ e)))
       h.frames (subst (λ (n : ℕ). Frames v.bytes g.framed n s behind) (sym now) g.frames) in
-      let left : live.held new.core.live.granted ≡ live.held behind.core.live.granted = ap (λ (x : RecordNow). live.held x.core.live.granted) both.1 in
-      let words : w.bytes.behind.word ≡ v.bytes.behind.word =
-      h.bytes alone.throttle
-      ∙ ap (λ (x : ℕ). word_framed h.framed x (live.held r.core.live.granted) (live.held new.core.live.granted)) word
-      ∙ ap (λ (x : ℕ). word_framed h.framed v.bytes.before.word x (live.held new.core.live.granted)) held
-      ∙ ap (λ (x : ℕ). word_framed h.framed v.bytes.before.word (live.held s.core.live.granted) x) left
-      ∙ ap (λ (f : Framed). word_framed f v.bytes.before.word (live.held s.core.live.granted) (live.held behind.core.live.granted)) both.0
-      ∙ sym (g.bytes here) in
-      (comes (answered _ _ h.answers g.answers (ap answer_framed both.0)) words (drew_nothing h.numbers g.numbers), both.1)
+      let left : new.core.live.granted ≡ behind.core.live.granted = ap (λ (x : RecordNow). x.core.live.granted) both.1 in
+      let other : WordsFramed h.framed v.bytes (held r.core.live.granted) (held new.core.live.granted) =
+      subst (λ (f : Framed). WordsFramed f v.bytes (held r.core.live.granted) (held new.core.live.granted)) (sym both.0)
+      (subst (λ (x : PeerGrants). WordsFramed g.framed v.bytes (held x) (held new.core.live.granted)) (sym held_same)
+      (subst (λ (x : PeerGrants). WordsFramed g.framed v.bytes (held s.core.live.granted) (held x)) (sym left) g.bytes)) in (
+        comes (answered _ _ h.answers g.answers (ap answer_framed both.0))
+            (framed_words h.framed w.bytes v.bytes (held r.core.live.granted) (held new.core.live.granted) alone.throttles here word h.bytes other) (drew_nothing h.numbers g.numbers),
+        both.1,
+      )
 
   by_due : (d : Due) → FeedIsInMemory r.core → IsAskedIfSigned r.core.live.session.phase r.core.live.feed → (d ≡ due.Compose → is_some (to_compose r.core) ≡ true) → StepsBy d w r new → StepsBy d v s behind →
       (done w ≡ done v) × (plain new ≡ plain behind)
@@ -406,12 +441,12 @@ takes stepped.NoMemory w r new m h = absurd (m refl)
 takes stepped.Moved w r new m h = h
 takes (stepped.Hand x) w r new m h = h
 takes stepped.Dry w r new m h = h
-takes (stepped.Full _) w r new m h = h
-takes (stepped.Again _ _) w r new m h = h
+takes (stepped.Full stage out) w r new m h = h
+takes (stepped.Again stage seen now) w r new m h = h
 takes stepped.Spent w r new m h = h
 takes (stepped.Faulted cause) w r new m h = h
 
-pub steps : (w v : Worked) (r s new behind : RecordNow) → FeedIsInMemory r.core → IsAskedIfSigned r.core.live.session.phase r.core.live.feed → AreAlone w → begun w ≡ begun v → plain r ≡ plain s →
+pub steps : (w v : Worked) (r s new behind : RecordNow) → FeedIsInMemory r.core → IsAskedIfSigned r.core.live.session.phase r.core.live.feed → WorkIsAlone w → begun w ≡ begun v → plain r ≡ plain s →
     Took w r new → Took v s behind → (done w ≡ done v) × (plain new ≡ plain behind)
 steps w v r s new behind here asked alone like same h g =
     let (mid, room, one) = takes w.answer w r new h.memory h.steps in

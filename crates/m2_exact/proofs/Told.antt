@@ -288,7 +288,7 @@ module _ {D : Type 0} (heard : D → List Heard) where
       ((k : SocketId) → end_in new.center k ≡ end_in behind.center k) → line_in new.center ≡ line_in behind.center → plain_node heard new ≡ plain_node heard behind
   alike old last new behind like h g some there own found line =
       let same = same_known old.center last.center new.center behind.center (ap (λ (n : PlainNode). n.center) like) (ap (λ (n : NodeNow D). n.center) h) (ap (λ (n : NodeNow D). n.center) g) in
-      ap (λ (n : NodeNow D). record { center = plain_center heard new.center; numbers = n.numbers; throttle = n.throttle }) h
-      ∙ ap (λ (n : PlainNode). record { center = plain_center heard new.center; numbers = n.numbers; throttle = n.throttle }) like
-      ∙ sym (ap (λ (n : NodeNow D). record { center = plain_center heard new.center; numbers = n.numbers; throttle = n.throttle }) g)
+      ap (λ (n : NodeNow D). record { center = plain_center heard new.center; numbers = n.numbers; throttles = n.throttles }) h
+      ∙ ap (λ (n : PlainNode). record { center = plain_center heard new.center; numbers = n.numbers; throttles = n.throttles }) like
+      ∙ sym (ap (λ (n : NodeNow D). record { center = plain_center heard new.center; numbers = n.numbers; throttles = n.throttles }) g)
       ∙ ap (λ (c : PlainCenter). record (plain_node heard behind) { center = c }) (center_told new.center behind.center same some there own found line)

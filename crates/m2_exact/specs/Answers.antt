@@ -1,7 +1,7 @@
 -- What comes of two halves that were asked, beside records that are alike. This project's own.
-use Rattle.std.specs.Prelude.{◌≡◌, Bool, true, false, IsSome}
+use Rattle.std.specs.Prelude.{◌≡◌, ℕ, Bool, true, false, IsSome}
 use Rattle.m2_dispatch.specs.m2_shared.Numbers.{SeenNumberPass}
-use Rattle.m2_dispatch.specs.m2_shared.Throttle.{SeenTakePass}
+use Rattle.m2_dispatch.specs.m2_shared.Gates.{Gate, words}
 use Rattle.m2_fabric.specs.Kinds.{IsInMemory}
 use Rattle.m2_trail.specs.Incoming.{IncomingNow}
 use Rattle.m2_script.specs.m2_center.m2_turn.Answering.{AnswersHalf}
@@ -11,16 +11,16 @@ use Rattle.m2_script.specs.m2_center.m2_turn.declared.answering.HalfAnswered.{Ha
 use Rattle.m2_script.specs.m2_center.m2_turn.declared.answering.HalfAnswered.TheVariants as answered
 use Rattle.m2_script.specs.m2_center.m2_record.RecordNow.{RecordNow}
 use Rattle.m2_exact.specs.Halves as half
-use Rattle.m2_exact.specs.Records.{bare_numbers, bare_take, plain}
+use Rattle.m2_exact.specs.Records.{bare_numbers, plain}
 use Rattle.m2_exact.specs.RecordTurns.{HasAlone, IsFit}
 
 pub record PlainJudging : Type 0 where
   pub side : RecordNow
-  pub bytes : SeenTakePass
+  pub bytes : Gate → ℕ
   pub numbers : SeenNumberPass
 
 abbrev pub plain_judging : Judging → PlainJudging
-plain_judging j = record { side = plain j.side; bytes = bare_take j.bytes; numbers = bare_numbers j.numbers }
+plain_judging j = record { side = plain j.side; bytes = words j.bytes; numbers = bare_numbers j.numbers }
 
 -- without the room of a half that goes on or comes back, and without where the parts of its ask lie
 abbrev pub bare_answered : {E : Type 0} → HalfAnswered E → HalfAnswered E

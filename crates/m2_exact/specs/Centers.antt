@@ -8,7 +8,7 @@ use Rattle.m2_script.specs.m2_center.Reaching.{waiting_at}
 use Rattle.m2_dispatch.specs.Heard.{Heard}
 use Rattle.m2_dispatch.specs.declared.letter.Letter.{Letter}
 use Rattle.m2_dispatch.specs.m2_shared.Numbers.{SeenNumberPass}
-use Rattle.m2_dispatch.specs.m2_shared.Throttle.{SeenTakePass}
+use Rattle.m2_dispatch.specs.m2_shared.Gates.{Gate, words}
 use Rattle.m2_fabric.specs.Kinds.{IsInMemory}
 use Rattle.m2_fabric.specs.Port.{SeenPort}
 use Rattle.m2_script.specs.m2_center.m2_turn.Halves.{AllHalves}
@@ -16,7 +16,7 @@ use Rattle.m2_script.specs.m2_center.m2_turn.Hearing.{IsHalfInMemory}
 use Rattle.m2_script.specs.m2_center.m2_turn.RecordTurn.{Means}
 use Rattle.m2_script.specs.m2_center.m2_record.RecordNow.{RecordNow}
 use Rattle.m2_exact.specs.Accepts.{plain_halves}
-use Rattle.m2_exact.specs.Records.{bare_numbers, bare_take, plain}
+use Rattle.m2_exact.specs.Records.{bare_numbers, plain}
 use Rattle.m2_exact.specs.RecordTurns.{HasAlone, IsFit, PlainOut, plain_out}
 
 -- A center by what is printed or decided by it: without room, without where the parts of asks lie, and of a dispatcher only what it
@@ -29,7 +29,7 @@ pub record PlainCenter : Type 0 where
   pub out : PlainOut
   pub waiting : List Letter
   pub queued : List Heard
-  pub bytes : SeenTakePass
+  pub bytes : Gate → ℕ
   pub numbers : SeenNumberPass
 
 abbrev pub plain_center : {D : Type 0} → (D → List Heard) → CenterNow D → PlainCenter
@@ -41,7 +41,7 @@ plain_center heard c = record {
   out = plain_out heard c.out;
   waiting = c.queued.waiting;
   queued = heard c.queued.inner;
-  bytes = bare_take c.bytes;
+  bytes = words c.bytes;
   numbers = bare_numbers c.numbers;
 }
 

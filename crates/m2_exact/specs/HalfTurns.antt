@@ -1,9 +1,9 @@
 -- The turns of two halves that are alike, beside records that are alike: each moves on, is answered where it is asked, and moves on
 -- again behind a reply. This project's own.
-use Rattle.std.specs.Prelude.{◌≡◌, Bool, true, false, List, map}
+use Rattle.std.specs.Prelude.{◌≡◌, ℕ, Bool, true, false, List, map}
 use Rattle.std.specs.List.{AllByRecursion}
+use Rattle.m2_dispatch.specs.m2_shared.Gates.{Gate, words}
 use Rattle.m2_dispatch.specs.m2_shared.Numbers.{SeenNumberPass}
-use Rattle.m2_dispatch.specs.m2_shared.Throttle.{SeenTakePass}
 use Rattle.m2_script.specs.m2_center.m2_turn.HalfTurn.{Homes, TurnsHalf}
 use Rattle.m2_script.specs.m2_center.m2_turn.HalvesTurn.{stays_by}
 use Rattle.m2_script.specs.m2_center.m2_turn.Hearing.{IsHalfInMemory}
@@ -13,16 +13,16 @@ use Rattle.m2_script.specs.m2_center.m2_turn.declared.half_turn.HalfTurned.{Half
 use Rattle.m2_script.specs.m2_center.m2_turn.declared.half_turn.HalfTurned.TheVariants as turned
 use Rattle.m2_script.specs.m2_center.m2_record.RecordNow.{RecordNow}
 use Rattle.m2_exact.specs.Accepts.{plain_pending}
-use Rattle.m2_exact.specs.Records.{bare_numbers, bare_take, plain}
+use Rattle.m2_exact.specs.Records.{bare_numbers, plain}
 use Rattle.m2_exact.specs.RecordTurns.{HasAlone, IsFit}
 
 pub record PlainHomes : Type 0 where
   pub records : List RecordNow
-  pub bytes : SeenTakePass
+  pub bytes : Gate → ℕ
   pub numbers : SeenNumberPass
 
 abbrev pub plain_homes : Homes → PlainHomes
-plain_homes h = record { records = map plain h.records; bytes = bare_take h.bytes; numbers = bare_numbers h.numbers }
+plain_homes h = record { records = map plain h.records; bytes = words h.bytes; numbers = bare_numbers h.numbers }
 
 -- without the room of a half that stays, and without where the parts of its ask lie
 abbrev pub bare_turned : {E : Type 0} → HalfTurned E → HalfTurned E

@@ -4,7 +4,9 @@ use Rattle.std.specs.List.{AllByRecursion}
 use Rattle.m2_dispatch.specs.Heard.{Heard}
 use Rattle.m2_dispatch.specs.m2_shared.Numbers.{SeenNumbers}
 use Rattle.m2_dispatch.specs.m2_shared.Place.{IsAlone}
-use Rattle.m2_dispatch.specs.m2_shared.Throttle.{SeenThrottle}
+use Rattle.m2_dispatch.specs.m2_shared.Gates.{places}
+use Rattle.m2_dispatch.specs.m2_shared.declared.throttles.Throttles.{Throttles}
+use Rattle.m2_exact.specs.Holding.{AreAlone}
 use Rattle.m2_script.specs.m2_cluster.Node.{IsWholeNode, NodeNow, NodePlans, NodeTurns}
 use Rattle.m2_script.specs.m2_center.m2_core.CoreNow.{IsAskedIfSigned}
 use Rattle.m2_script.specs.m2_center.m2_feed.m2_journal.declared.facts.PlanStep.{PlanStep}
@@ -14,10 +16,10 @@ use Rattle.m2_exact.specs.Centers.{PlainCenter, plain_center}
 pub record PlainNode : Type 0 where
   pub center : PlainCenter
   pub numbers : SeenNumbers
-  pub throttle : SeenThrottle
+  pub throttles : Throttles
 
 abbrev pub plain_node : {D : Type 0} → (D → List Heard) → NodeNow D → PlainNode
-plain_node heard n = record { center = plain_center heard n.center; numbers = n.numbers; throttle = n.throttle }
+plain_node heard n = record { center = plain_center heard n.center; numbers = n.numbers; throttles = n.throttles }
 
 -- nothing was asked on the record's feed before both sides had signed
 abbrev pub IsAskedBehind : RecordNow → Type 0
@@ -27,7 +29,7 @@ IsAskedBehind r = IsAskedIfSigned r.core.live.session.phase r.core.live.feed
 pub record IsFitNode {D : Type 0} (n : NodeNow D) : Type 0 where
   pub whole : IsWholeNode n
   pub asked : AllByRecursion IsAskedBehind n.center.records
-  pub throttle : IsAlone n.throttle.place
+  pub throttles : AreAlone (places n.throttles)
   pub counter : IsAlone n.numbers.place
 
 -- a turn that found memory, in its stages and for its letters

@@ -1,11 +1,11 @@
 -- The turns of two records that are alike: their steps, one after another, and what these hand out. This project's own.
-use Rattle.std.specs.Prelude.{◌≡◌, ◌≢◌, List, Option, None}
+use Rattle.std.specs.Prelude.{◌≡◌, ◌≢◌, ℕ, List, Option, None}
 use Rattle.m2_dispatch.specs.Heard.{Heard}
 use Rattle.m2_dispatch.specs.declared.letter.Letter.{Letter}
 use Rattle.m2_dispatch.specs.declared.parcel.Parcel.{Parcel}
+use Rattle.m2_dispatch.specs.m2_shared.Gates.{Gate, places, words}
 use Rattle.m2_dispatch.specs.m2_shared.Numbers.{SeenNumberPass}
 use Rattle.m2_dispatch.specs.m2_shared.Place.{IsAlone}
-use Rattle.m2_dispatch.specs.m2_shared.Throttle.{SeenTakePass}
 use Rattle.m2_script.specs.m2_center.m2_core.CoreNow.{IsAskedIfSigned}
 use Rattle.m2_script.specs.m2_center.m2_record.RecordNow.{RecordNow}
 use Rattle.m2_script.specs.m2_center.m2_turn.Outbox.{OutboxNow}
@@ -13,7 +13,8 @@ use Rattle.m2_script.specs.m2_center.m2_turn.RecordTurn.{Means, Turning, TurnsAs
 use Rattle.m2_script.specs.m2_center.m2_turn.declared.record_turn.RecordTurn.{RecordTurn}
 use Rattle.m2_script.specs.m2_center.m2_turn.declared.record_turn.RecordTurn.TheVariants as turn
 use Rattle.m2_exact.specs.Cores.{FeedIsInMemory}
-use Rattle.m2_exact.specs.Records.{bare_numbers, bare_take, plain}
+use Rattle.m2_exact.specs.Holding.{AreAlone}
+use Rattle.m2_exact.specs.Records.{bare_numbers, plain}
 
 -- Where parcels go, by what is printed of it: the calls that the dispatcher of fast kinds had, and the parcels that are in the mail or
 -- held. What a dispatcher has besides is its own.
@@ -28,11 +29,11 @@ plain_out heard o = record { fast = heard o.fast; mail = o.mail; held = o.held }
 pub record PlainTurning : Type 0 where
   pub side : RecordNow
   pub out : PlainOut
-  pub bytes : SeenTakePass
+  pub bytes : Gate → ℕ
   pub numbers : SeenNumberPass
 
 abbrev pub plain_turning : {D : Type 0} → (D → List Heard) → Turning D → PlainTurning
-plain_turning heard t = record { side = plain t.side; out = plain_out heard t.out; bytes = bare_take t.bytes; numbers = bare_numbers t.numbers }
+plain_turning heard t = record { side = plain t.side; out = plain_out heard t.out; bytes = words t.bytes; numbers = bare_numbers t.numbers }
 
 -- a record's feed is over an end in memory, and nothing was asked there before both sides had signed
 pub record IsFit (r : RecordNow) : Type 0 where
@@ -41,7 +42,7 @@ pub record IsFit (r : RecordNow) : Type 0 where
 
 -- no thread shares the words
 pub record HasAlone (m : Means) : Type 0 where
-  pub throttle : IsAlone m.throttle.place
+  pub throttles : AreAlone (places m.throttles)
   pub counter : IsAlone m.counter
 
 -- a turn that found memory, in its steps and for its letters

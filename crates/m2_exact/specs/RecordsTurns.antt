@@ -3,7 +3,7 @@ use Rattle.std.specs.Prelude.{◌≡◌, ℕ, List, map, None, Ok, IsSome}
 use Rattle.std.specs.List.{AllByRecursion}
 use Rattle.m2_dispatch.specs.Heard.{Heard}
 use Rattle.m2_dispatch.specs.m2_shared.Numbers.{SeenNumberPass}
-use Rattle.m2_dispatch.specs.m2_shared.Throttle.{SeenTakePass}
+use Rattle.m2_dispatch.specs.m2_shared.Gates.{Gate, words}
 use Rattle.m2_fabric.specs.Port.{SeenPort}
 use Rattle.m2_script.specs.m2_center.m2_turn.Connecting.{AtPort, DialsIfDue}
 use Rattle.m2_script.specs.m2_center.m2_turn.Planning.{TakesNew}
@@ -12,7 +12,7 @@ use Rattle.m2_script.specs.m2_center.m2_turn.RecordsTurn.{AllAmid, TurnsEach}
 use Rattle.m2_script.specs.m2_center.m2_turn.declared.records_turn.RecordsTurn.TheVariants as turn
 use Rattle.m2_script.specs.m2_center.m2_feed.m2_journal.declared.facts.PlanStep.{PlanStep}
 use Rattle.m2_script.specs.m2_center.m2_record.RecordNow.{RecordNow}
-use Rattle.m2_exact.specs.Records.{bare_numbers, bare_take, plain}
+use Rattle.m2_exact.specs.Records.{bare_numbers, plain}
 use Rattle.m2_exact.specs.RecordTurns.{HasAlone, IsFit, PlainOut, plain_out}
 
 -- ---- a connect, and a step that is planned
@@ -45,7 +45,7 @@ pub record PlainAll : Type 0 where
   pub records : List RecordNow
   pub port : SeenPort
   pub out : PlainOut
-  pub bytes : SeenTakePass
+  pub bytes : Gate → ℕ
   pub numbers : SeenNumberPass
 
 abbrev pub plain_all : {D : Type 0} → (D → List Heard) → AllAmid D → PlainAll
@@ -53,7 +53,7 @@ plain_all heard a = record {
   records = map plain a.records;
   port = a.around.port;
   out = plain_out heard a.around.out;
-  bytes = bare_take a.around.bytes;
+  bytes = words a.around.bytes;
   numbers = bare_numbers a.around.numbers;
 }
 

@@ -178,9 +178,9 @@ pub fn runs_are_one<E: End>()
     ensures { runs.RunsAreOne E }
 {}
 
-/// At each node of a run in memory the word of the throttle is just what the node holds: what its records were granted for messages that
-/// aren't finished and for letters that are ready, and the letters in its outbox and in its queue. Before the first line both are 0, and
-/// each deed keeps it so. So does each turn of a center, also one in which memory ran out, and each step that is planned, where no thread
+/// At each node of a run in memory the word of each throttle is just what the node holds of it: what its records were granted for messages
+/// that aren't finished and for letters that are ready, and the letters in its outbox and in its queue. Before the first line both are 0,
+/// and each deed keeps it so. So does each turn of a center, also one in which memory ran out, and each step that is planned, where no thread
 /// shares the word.
 #[tactic(auto, using(crate::proofs::HeldCenters::centers, crate::proofs::HeldRuns::runs))]
 pub fn words_are_held<E: End, D: Dispatcher>()

@@ -16,7 +16,7 @@
 //! is asked of the run, and holds of a valid scenario's (`first_stays_apart` of `m2_promise`). The calls that make a run
 //! ([`Run`], [`outcome_of`]) are passed on, so that whoever makes one and cites this lists one crate.
 //!
-//! Beside these stands a law of one run: at each node the word of its throttle is just what the node holds
+//! Beside these stands a law of one run: at each node the word of each of its throttles is just what the node holds of it
 //! (`specs/Holding.antt`, [`words_are_held`]).
 //!
 //! What it isn't: how a run ends that finds no memory. And an end between threads tells nothing of what waits, so nothing is

@@ -190,9 +190,9 @@ IsNoFault _ = Unit {0}
 
 next_stays : (t : Throttled) (answer : CoreNext) (front : FrontHeard) (old new : CoreNow) → IsNoFault answer → IsNext t answer front old new → CoreStays old new
 next_stays t next.Rests rests old new _ e = core_same old new (ap (λ c. c.live.session.phase) e) (ap (λ c. c.live.feed) e)
-next_stays t next.Granted (asks n) old new _ (_, g) = record { phase = ap (λ c. c.live.session.phase) g.only; feed = subst (FeedGrows old.live.feed) (sym (ap (λ c. c.live.feed) g.only)) (granted_stays old.live.feed) }
-next_stays t (next.Full held) (asks n) old new _ (_, e) = core_same old new (ap (λ c. c.live.session.phase) e) (ap (λ c. c.live.feed) e)
-next_stays t (next.Again seen now) (asks n) old new _ (_, e) = core_same old new (ap (λ c. c.live.session.phase) e) (ap (λ c. c.live.feed) e)
+next_stays t next.Granted (asks n) old new _ g = record { phase = ap (λ c. c.live.session.phase) g.only; feed = subst (FeedGrows old.live.feed) (sym (ap (λ c. c.live.feed) g.only)) (granted_stays old.live.feed) }
+next_stays t (next.Full stage held) (asks n) old new _ g = core_same old new (ap (λ c. c.live.session.phase) g.only) (ap (λ c. c.live.feed) g.only)
+next_stays t (next.Again stage seen now) (asks n) old new _ g = core_same old new (ap (λ c. c.live.session.phase) g.only) (ap (λ c. c.live.feed) g.only)
 next_stays t next.Passed (tells heard.Nothing) old new _ h = core_by old new (ap (λ c. c.live.session.phase) h.only) (passes_item h.passes.item old.live.feed new.live.feed h.passes.passes)
 next_stays t next.Passed (tells (heard.Stamp k)) old new _ h = core_by old new (ap (λ c. c.live.session.phase) h.only) (stamps_feed _ k old.live.feed new.live.feed h.stamps)
 next_stays t next.NoMemory (tells (heard.Stamp k)) old new _ e = core_same old new (ap (λ c. c.live.session.phase) e) (ap (λ c. c.live.feed) e)
@@ -272,8 +272,8 @@ hands : (answer : Stepped) (old new : RecordNow) → HandsAs answer old new → 
 hands (stepped.Hand x) old new (_, e) = moves_same old new (ap fixed_of e) (ap stand_of e)
 hands stepped.Moved old new e = elim e [ ]
 hands stepped.Dry old new e = elim e [ ]
-hands (stepped.Full held) old new e = elim e [ ]
-hands (stepped.Again seen now) old new e = elim e [ ]
+hands (stepped.Full stage held) old new e = elim e [ ]
+hands (stepped.Again stage seen now) old new e = elim e [ ]
 hands stepped.Spent old new e = elim e [ ]
 hands (stepped.Faulted f) old new e = elim e [ ]
 hands stepped.NoMemory old new e = elim e [ ]
@@ -310,8 +310,8 @@ frames t (framed.Obeyed full) now old new (mid, (_, first), (h, second)) =
     let so = obeys full mid.core.live new.core.live h.obeys in
     moves_chain old mid new (room_alone old mid first) (enters mid new (ap fixed_of second) (ap (λ r. r.spent) second) so.0 so.1)
 frames t (framed.Faulted cause) now old new (_, e) = breaks now old new e
-frames t (framed.Full out) now old new (_, e) = room_alone old new e
-frames t (framed.Again seen at) now old new (_, e) = room_alone old new e
+frames t (framed.Full stage out) now old new (h, e) = stays old new (ap fixed_of e) (ap (λ r. r.spent) e) (front_stays t (next.Full stage out) old.core new.core tt h)
+frames t (framed.Again stage seen at) now old new (h, e) = stays old new (ap fixed_of e) (ap (λ r. r.spent) e) (front_stays t (next.Again stage seen at) old.core new.core tt h)
 frames t framed.NoMemory now old new (_, e) = room_alone old new e
 
 -- ---- what is heard
@@ -438,7 +438,7 @@ steps stepped.NoMemory w old new n = nothing_done old new n.nothing
 steps stepped.Moved w old new (mid, room, due) = takes_due w old mid new room due
 steps (stepped.Hand x) w old new (mid, room, due) = takes_due w old mid new room due
 steps stepped.Dry w old new (mid, room, due) = takes_due w old mid new room due
-steps (stepped.Full held) w old new (mid, room, due) = takes_due w old mid new room due
-steps (stepped.Again seen now) w old new (mid, room, due) = takes_due w old mid new room due
+steps (stepped.Full stage held) w old new (mid, room, due) = takes_due w old mid new room due
+steps (stepped.Again stage seen now) w old new (mid, room, due) = takes_due w old mid new room due
 steps stepped.Spent w old new (mid, room, due) = takes_due w old mid new room due
 steps (stepped.Faulted f) w old new (mid, room, due) = takes_due w old mid new room due

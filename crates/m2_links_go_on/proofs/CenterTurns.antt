@@ -1,4 +1,5 @@
 -- All of a center's turn: accepts, the turns of halves, those of records, and the mail.
+use Rattle.m2_dispatch.specs.m2_shared.Gates.{places}
 use Rattle.std.proofs.Common.{◌≡◌, inl, inr, List, [], ◌∷◌, Ok, Err, sym, ap, subst}
 use Rattle.std.specs.List.{AllByRecursion}
 use Rattle.m2_dispatch.specs.Heard.{Heard}
@@ -71,7 +72,7 @@ module _ {D : Type 0} (E : Type 0) (heard : D → List Heard) (calls : List Call
 
   mail_emptied : (result : Mailed) (old new : CenterNow D) → EmptiesMail heard m result old new → IsLogged heard (logging_in old) → IsLogged heard (logging_in new)
   mail_emptied result old new e l =
-      subst (λ rs. IsLogged heard (logging rs new.out new.queued)) (sym (ap (λ c. c.records) e.only)) (mail_stays_logged heard m.throttle.place result old.records (mailing_in old) (mailing_in new) e.mails l)
+      subst (λ rs. IsLogged heard (logging rs new.out new.queued)) (sym (ap (λ c. c.records) e.only)) (mail_stays_logged heard (places m.throttles) result old.records (mailing_in old) (mailing_in new) e.mails l)
 
   -- where its records are records
   settled : (c : CenterNow D) → AllByRecursion IsRecord c.records → HasGrown c → IsLogged heard (logging_in c)

@@ -82,7 +82,7 @@ module _ {D : Type 0} where
   same_node : (m n : NodeNow D) → RestIsSame m n → SameNode m n
   same_node m n e = record {
     center = same_center m.center n.center (same_rest m n e);
-    shared = record { numbers = ap (λ (x : NodeNow D). x.numbers) e; throttle = ap (λ (x : NodeNow D). x.throttle) e };
+    shared = record { numbers = ap (λ (x : NodeNow D). x.numbers) e; throttles = ap (λ (x : NodeNow D). x.throttles) e };
   }
 
   keeps_sockets : (m n : NodeNow D) → RestIsSame m n → KeepsSockets m → KeepsSockets n

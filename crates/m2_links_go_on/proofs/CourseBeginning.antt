@@ -21,7 +21,7 @@ use Rattle.m2_links_go_on.proofs.CourseMoving.{is_moved}
 
 pub records_begin : RecordsBegin
 records_begin = record {
-  first = λ f place room. refl;
+  first = λ f place peer room. refl;
   planned = λ x old new e is. subst IsBegun (sym e) (ap (λ (r : RecordNow). record r { plan = old.plan ++ x ∷ [] }) is);
   roomy = λ old new e is. subst IsBegun (sym e) (ap (λ (r : RecordNow). record r { room = new.room }) is);
 }

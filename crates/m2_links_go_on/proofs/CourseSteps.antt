@@ -105,8 +105,8 @@ hands : (answer : Stepped) (now : ℕ) (old new : RecordNow) → HandsAs answer 
 hands (stepped.Hand x) now old new (_, e) = beats_same now old new (ap calm_of e) (ap (λ r. r.journal) e)
 hands stepped.Moved now old new e = elim e [ ]
 hands stepped.Dry now old new e = elim e [ ]
-hands (stepped.Full held) now old new e = elim e [ ]
-hands (stepped.Again seen at) now old new e = elim e [ ]
+hands (stepped.Full stage held) now old new e = elim e [ ]
+hands (stepped.Again stage seen at) now old new e = elim e [ ]
 hands stepped.Spent now old new e = elim e [ ]
 hands (stepped.Faulted f) now old new e = elim e [ ]
 hands stepped.NoMemory now old new e = elim e [ ]
@@ -149,8 +149,8 @@ frames t (framed.Obeyed full) now old new (mid, (_, first), (h, second)) =
     beats_chain now old mid new (ap (λ r. r.core.facts) first) (room_alone now old mid first)
     (beats_calm now mid new (entry.Obeyed full ∷ []) (ap calm_of second) (ap (λ r. r.journal) second) refl)
 frames t (framed.Faulted cause) now old new (_, e) = breaks now old new e
-frames t (framed.Full out) now old new (_, e) = room_alone now old new e
-frames t (framed.Again seen at) now old new (_, e) = room_alone now old new e
+frames t (framed.Full stage out) now old new (h, e) = core_alone now old new e
+frames t (framed.Again stage seen at) now old new (h, e) = core_alone now old new e
 frames t framed.NoMemory now old new (_, e) = room_alone now old new e
 
 pub counts_on : (now : ℕ) (old new : RecordNow) → CountsResumption old new → Beats now old new
@@ -244,8 +244,8 @@ beats stepped.NoMemory w old new n = beats_same w.now old new (ap calm_of n.noth
 beats stepped.Moved w old new (mid, room, due) = takes_due w old mid new room due
 beats (stepped.Hand x) w old new (mid, room, due) = takes_due w old mid new room due
 beats stepped.Dry w old new (mid, room, due) = takes_due w old mid new room due
-beats (stepped.Full held) w old new (mid, room, due) = takes_due w old mid new room due
-beats (stepped.Again seen at) w old new (mid, room, due) = takes_due w old mid new room due
+beats (stepped.Full stage held) w old new (mid, room, due) = takes_due w old mid new room due
+beats (stepped.Again stage seen at) w old new (mid, room, due) = takes_due w old mid new room due
 beats stepped.Spent w old new (mid, room, due) = takes_due w old mid new room due
 beats (stepped.Faulted f) w old new (mid, room, due) = takes_due w old mid new room due
 

@@ -8,6 +8,7 @@ use Rattle.m2_cluster.specs.m2_core.CoreNow.{at_start}
 use Rattle.m2_fabric.specs.declared.socket.SocketId.{SocketId}
 use Rattle.m2_fabric.specs.Port.{fresh_port}
 use Rattle.m2_fabric.specs.Sockets.{goes_to}
+use Rattle.m2_dispatch.specs.m2_shared.declared.peer_type.PeerType.TheVariants.{Osd}
 use Rattle.m2_growth.proofs.Ends.{own_none}
 use Rattle.m2_weave.specs.m2_journal.SideFacts.{SideFacts}
 use Rattle.m2_weave.specs.m2_journal.State.{start}
@@ -15,19 +16,20 @@ use Rattle.m2_weave.proofs.m2_journal.Pair.{facts_of_a, facts_of_b, here, there}
 use Rattle.m2_history.specs.m2_record.IsRecord.{IsRecord, new_record, no_room}
 use Rattle.m2_history.specs.m2_record.RecordNow.{RecordNow}
 use Rattle.m2_history.proofs.m2_record.Making.{new-is-record}
+use Rattle.m2_history.proofs.m2_record.m2_core.Holding.{nothing_owned}
 use Rattle.m2_links_go_on.specs.LinkLaws.{ALinkGoesOn}
 use Rattle.m2_links_go_on.specs.Linked.{IsNode, NodeNow, Nodes}
 use Rattle.m2_links_go_on.proofs.Staying.{staying_goes_on}
 use Rattle.m2_fabric.proofs.m2_lemmas.Booleans.{and_false, both_of_and, false_isnt_true}
 
--- a new record of the node at this place
+-- a new record of the node at this place, towards an OSD
 abbrev pub side : SideFacts → (place : ℕ) → RecordNow
-side f place = new_record f place
+side f place = new_record f place Osd
 
 abbrev pub node : SideFacts → (place : ℕ) → NodeNow
 node f place = record { holding = record { port = fresh_port f.mine; records = side f place ∷ []; halves = record { pending = []; loose = [] } }; side = side f place }
 
-agrees : (f : SideFacts) → Agrees (at_start f) (start f)
+agrees : (f : SideFacts) → Agrees (at_start f Osd) (start f)
 agrees f = record { session = refl; queue = refl; last = refl; life = refl; owes = refl; dials = refl; top = refl; feed = tt; resumed = inl refl }
 
 from_here : (k : SocketId) → goes_to there k ≡ true → goes_to here k ≡ false
@@ -47,10 +49,10 @@ with_record f place is apart = record {
   whole = tt;
   own = record { held = own_none; made = tt; waiting = own_none; to_come = tt; elsewhere = (apart, tt); fed = (refl, tt); on_socket = tt; here = tt };
   halves = record { each = (λ k h. absurd (false_isnt_true h), tt); made = (λ k h. absurd (false_isnt_true h), tt); here = (λ k h. absurd (false_isnt_true h), tt); one_judge = (tt, tt); askers = tt; peers = (tt, tt) };
-  supply = record { place = None; least = 0 };
+  supply = record { places = λ gate. None; least = 0 };
   entity = f.node.entity;
   sessions = record {
-    records = (record { owned = record { feed = tt; parcels = tt }; top = omega arith; made = λ k h. refl }, tt);
+    records = (record { owned = record { feed = nothing_owned (λ gate. None) Osd; parcels = tt }; top = omega arith; made = λ k h. refl }, tt);
     kind = (refl, tt);
     peers = (tt, tt);
     halves = tt;
@@ -60,10 +62,10 @@ with_record f place is apart = record {
 }
 
 pub is_node_of_a : IsNode (node facts_of_a 1).holding
-is_node_of_a = with_record facts_of_a 1 (new-is-record facts_of_a 1 no_room (omega arith) (agrees facts_of_a)) from_here
+is_node_of_a = with_record facts_of_a 1 (new-is-record facts_of_a 1 Osd no_room (omega arith) (agrees facts_of_a)) from_here
 
 pub is_node_of_b : IsNode (node facts_of_b 0).holding
-is_node_of_b = with_record facts_of_b 0 (new-is-record facts_of_b 0 no_room (omega arith) (agrees facts_of_b)) from_there
+is_node_of_b = with_record facts_of_b 0 (new-is-record facts_of_b 0 Osd no_room (omega arith) (agrees facts_of_b)) from_there
 
 abbrev nodes : Nodes
 nodes = record { near = node facts_of_a 1; far = node facts_of_b 0 }

@@ -67,8 +67,8 @@ module _ {D : Type 0} (heard : D → List Heard) (calls : List Call) (m : Means)
       (handed_next old.side new.side x is h.first (ap deliveries_of h.only) (ap (λ r. r.handed) h.only))
   by_answer stepped.Moved old new is free moves further h p = quiet old new is moves further h p
   by_answer stepped.Dry old new is free moves further h p = quiet old new is moves further h p
-  by_answer (stepped.Full held) old new is free moves further h p = quiet old new is moves further h p
-  by_answer (stepped.Again seen now) old new is free moves further h p = quiet old new is moves further h p
+  by_answer (stepped.Full stage held) old new is free moves further h p = quiet old new is moves further h p
+  by_answer (stepped.Again stage seen now) old new is free moves further h p = quiet old new is moves further h p
   by_answer stepped.Spent old new is free moves further h p = quiet old new is moves further h p
   by_answer (stepped.Faulted f) old new is free moves further h p = quiet old new is moves further h p
   by_answer stepped.NoMemory old new is free moves further h p = quiet old new is moves further h p
@@ -101,8 +101,8 @@ module _ {D : Type 0} (heard : D → List Heard) (calls : List Call) (m : Means)
   turns one.Busy old new own t = led t.stood old new own t.steps
   turns one.Stuck old new own t = led t.led.stood old new own t.led.steps
   turns one.Dry old new own t = ends_by one.Dry old new own t
-  turns (one.Full held) old new own t = ends_by (one.Full held) old new own t
-  turns (one.Again seen at) old new own t = ends_by (one.Again seen at) old new own t
+  turns (one.Full stage held) old new own t = ends_by (one.Full stage held) old new own t
+  turns (one.Again stage seen at) old new own t = ends_by (one.Again stage seen at) old new own t
   turns one.Spent old new own t = ends_by one.Spent old new own t
   turns (one.Faulted cause) old new own t = ends_by (one.Faulted cause) old new own t
   turns one.NoMemory old new own t = ends_by one.NoMemory old new own t
@@ -124,8 +124,8 @@ module _ {D : Type 0} (heard : D → List Heard) (calls : List Call) (m : Means)
       stuck : (ts : List (Turning D)) → ts ≡ [] → Steps heard m ts old new → ⊥
       stuck ts e s = false_isnt_true (sym t.full ∙ ap (λ (x : Turning D). is_free x.out) (sym (subst (λ l. Steps heard m l old new) e s)) ∙ free)
   begins one.Dry old new free t = by_first t.led.stood old t.mid t.led.steps t.takes.before
-  begins (one.Full held) old new free t = by_first t.led.stood old t.mid t.led.steps t.takes.before
-  begins (one.Again seen at) old new free t = by_first t.led.stood old t.mid t.led.steps t.takes.before
+  begins (one.Full stage held) old new free t = by_first t.led.stood old t.mid t.led.steps t.takes.before
+  begins (one.Again stage seen at) old new free t = by_first t.led.stood old t.mid t.led.steps t.takes.before
   begins one.Spent old new free t = by_first t.led.stood old t.mid t.led.steps t.takes.before
   begins (one.Faulted cause) old new free t = by_first t.led.stood old t.mid t.led.steps t.takes.before
   begins one.NoMemory old new free t = by_first t.led.stood old t.mid t.led.steps t.takes.before

@@ -10,7 +10,7 @@ use Rattle.m2_dispatch.specs.Laws.{Call, History, Put, Turn, after_call, after_c
 use Rattle.m2_dispatch.specs.Letters.{heard_in}
 use Rattle.m2_dispatch.specs.Parcel.{heard_at_put}
 use Rattle.m2_history.specs.m2_record.RecordNow.{RecordNow, delivery_of}
-use Rattle.m2_dispatch.specs.m2_shared.Place.{Place}
+use Rattle.m2_dispatch.specs.m2_shared.Gates.{Places}
 use Rattle.m2_cluster.specs.m2_center.m2_turn.declared.mailing.Mailed.TheVariants as mailed
 use Rattle.m2_cluster.specs.m2_center.m2_turn.Mailing.{DispatchesSome, LacksMemory, Mailing, MailsSome, PutsSome, Queueing, after_puts, heard_at_puts}
 use Rattle.m2_cluster.specs.m2_center.m2_turn.Outbox.{OutboxNow}
@@ -85,7 +85,7 @@ module _ {D : Type 0} (heard : D → List Heard) where
   )
 
   -- parcels are put
-  puts_logged : (place : Place) (records : List RecordNow) (old new : Mailing D) → PutsSome heard place old new →
+  puts_logged : (place : Places) (records : List RecordNow) (old new : Mailing D) → PutsSome heard place old new →
       IsLogged heard (logging records old.out old.queue.queued) → IsLogged heard (logging records new.out new.queue.queued)
   puts_logged place records old new p l = record {
     peers = l.peers;
@@ -102,7 +102,7 @@ module _ {D : Type 0} (heard : D → List Heard) where
   }
 
   -- letters are dispatched
-  dispatches_logged : (place : Place) (records : List RecordNow) (out : OutboxNow D) (old new : Queueing D) → DispatchesSome heard place old new →
+  dispatches_logged : (place : Places) (records : List RecordNow) (out : OutboxNow D) (old new : Queueing D) → DispatchesSome heard place old new →
       IsLogged heard (logging records out old.queued) → IsLogged heard (logging records out new.queued)
   dispatches_logged place records out old new d l = record {
     peers = l.peers;
@@ -125,12 +125,12 @@ module _ {D : Type 0} (heard : D → List Heard) where
       waited : (peer : ℕ) → (history_of peer l.calls).waiting ≡ d.dispatched ++ new.queued.waiting
       waited peer = sym (l.queue.waiting peer) ∙ d.waiting
 
-  mails_logged : (place : Place) (records : List RecordNow) (old new : Mailing D) → MailsSome heard place old new →
+  mails_logged : (place : Places) (records : List RecordNow) (old new : Mailing D) → MailsSome heard place old new →
       IsLogged heard (logging records old.out old.queue.queued) → IsLogged heard (logging records new.out new.queue.queued)
   mails_logged place records old new m l =
       dispatches_logged place records new.out m.mid new.queue m.dispatches (puts_logged place records old (record { out = new.out; queue = m.mid }) m.puts l)
 
-  lacks_logged : (place : Place) (records : List RecordNow) (old new : Mailing D) → LacksMemory heard place old new →
+  lacks_logged : (place : Places) (records : List RecordNow) (old new : Mailing D) → LacksMemory heard place old new →
       IsLogged heard (logging records old.out old.queue.queued) → IsLogged heard (logging records new.out new.queue.queued)
   lacks_logged place records old new (inl (p, _)) l = puts_logged place records old new p l
   lacks_logged place records old new (inr (m, _, _)) l = mails_logged place records old new m l

@@ -12,7 +12,7 @@ use Rattle.m2_dispatch.specs.Parcel.{after_put, heard_at_put}
 use Rattle.m2_dispatch.specs.m2_policy.declared.path.Path.{Path}
 use Rattle.m2_dispatch.specs.m2_policy.declared.path.Path.TheVariants.{Fast, Queued}
 use Rattle.m2_dispatch.proofs.m2_queues.Joining.{all-put_behind}
-use Rattle.m2_dispatch.specs.m2_shared.Place.{Place}
+use Rattle.m2_dispatch.specs.m2_shared.Gates.{Places}
 use Rattle.m2_cluster.specs.m2_center.m2_turn.declared.mailing.Mailed.{Mailed}
 use Rattle.m2_cluster.specs.m2_center.m2_turn.declared.mailing.Mailed.TheVariants as mailed
 use Rattle.m2_cluster.specs.m2_center.m2_turn.Mailing.{DispatchesSome, Mailing, Mails, MailsSome, PutsSome, Queueing, after_puts, heard_at_puts}
@@ -119,7 +119,7 @@ module _ {D : Type 0} (heard : D → List Heard) (Allowed : ℕ → Type 0) wher
     pub fast : FastIsOf o
     pub queue : QueueIsOf q
 
-  puts_some : (place : Place) (old new : Mailing D) → PutsSome heard place old new → AllIsOf old.out old.queue.queued → AllIsOf new.out new.queue.queued
+  puts_some : (place : Places) (old new : Mailing D) → PutsSome heard place old new → AllIsOf old.out old.queue.queued → AllIsOf new.out new.queue.queued
   puts_some place old new p so =
       let parts = all_parted IsParcel p.put new.out.mail (subst (AllByRecursion IsParcel) p.mail so.fast.mail) in
       record {
@@ -131,7 +131,7 @@ module _ {D : Type 0} (heard : D → List Heard) (Allowed : ℕ → Type 0) wher
         };
       }
 
-  dispatches_some : (place : Place) (old new : Queueing D) → DispatchesSome heard place old new → QueueIsOf old.queued → QueueIsOf new.queued
+  dispatches_some : (place : Places) (old new : Queueing D) → DispatchesSome heard place old new → QueueIsOf old.queued → QueueIsOf new.queued
   dispatches_some place old new d so =
       let parts = all_parted IsLetter d.dispatched new.queued.waiting (subst (AllByRecursion IsLetter) d.waiting so.waiting) in
       record {
@@ -140,12 +140,12 @@ module _ {D : Type 0} (heard : D → List Heard) (Allowed : ℕ → Type 0) wher
             (all_append IsCall (heard old.queued.inner) (map heard_in d.dispatched) so.calls (letters_heard d.dispatched parts.0));
       }
 
-  mails_some : (place : Place) (old new : Mailing D) → MailsSome heard place old new → AllIsOf old.out old.queue.queued → AllIsOf new.out new.queue.queued
+  mails_some : (place : Places) (old new : Mailing D) → MailsSome heard place old new → AllIsOf old.out old.queue.queued → AllIsOf new.out new.queue.queued
   mails_some place old new m so =
       let put_there = puts_some place old (record { out = new.out; queue = m.mid }) m.puts so in
       record { fast = put_there.fast; queue = dispatches_some place m.mid new.queue m.dispatches put_there.queue }
 
-  pub mailed_on : (place : Place) (answer : Mailed) (old new : Mailing D) → Mails heard place answer old new → AllIsOf old.out old.queue.queued →
+  pub mailed_on : (place : Places) (answer : Mailed) (old new : Mailing D) → Mails heard place answer old new → AllIsOf old.out old.queue.queued →
       AllIsOf new.out new.queue.queued
   mailed_on place mailed.Moved old new (m, _, _) so = mails_some place old new m so
   mailed_on place mailed.Dry old new (m, _, _) so = mails_some place old new m so

@@ -81,8 +81,8 @@ module _ {D : Type 0} (heard : D → List Heard) (m : Means) (Allowed : ℕ → 
   turns one.Busy old new t = led t.stood old new t.steps
   turns one.Stuck old new t = led t.led.stood old new t.led.steps
   turns one.Dry old new t = ends_by one.Dry old new t
-  turns (one.Full held) old new t = ends_by (one.Full held) old new t
-  turns (one.Again seen at) old new t = ends_by (one.Again seen at) old new t
+  turns (one.Full stage held) old new t = ends_by (one.Full stage held) old new t
+  turns (one.Again stage seen at) old new t = ends_by (one.Again stage seen at) old new t
   turns one.Spent old new t = ends_by one.Spent old new t
   turns (one.Faulted cause) old new t = ends_by (one.Faulted cause) old new t
   turns one.NoMemory old new t = ends_by one.NoMemory old new t

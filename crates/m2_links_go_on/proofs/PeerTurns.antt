@@ -1,4 +1,5 @@
 -- All of a center's turn: its records have their peers and their plans still, and all calls are of these peers.
+use Rattle.m2_dispatch.specs.m2_shared.Gates.{places}
 use Rattle.std.proofs.Common.{◌≡◌, inl, inr, ℕ, zero, suc, ◌==◌, ◌||◌, Bool, true, false, List, [], ◌∷◌, map, Option, Some, None, IfSome, Ok, Err, refl, sym, ap, subst, ◌∙◌}
 use Rattle.std.specs.Prelude.{slice_get, slice_set}
 use Rattle.std.specs.List.{AllByRecursion, list_any}
@@ -141,7 +142,7 @@ module _ {D : Type 0} (E : Type 0) (heard : D → List Heard) (m : Means) (first
   mail_emptied : (result : Mailed) (old new : CenterNow D) → EmptiesMail heard m result old new → HasTurned old → HasTurned new
   mail_emptied result old new e was = record {
     plans = ap (λ (c : CenterNow D). map planned_of c.records) e.only ∙ was.plans;
-    all = mailed_on heard (IsPeerOf first) m.throttle.place result (mailing_in old) (mailing_in new) e.mails was.all;
+    all = mailed_on heard (IsPeerOf first) (places m.throttles) result (mailing_in old) (mailing_in new) e.mails was.all;
   }
 
   turned : (answer : Answer) (old new : CenterNow D) → TakesTurn E heard m answer old new → HasTurned old → HasTurned new

@@ -72,9 +72,9 @@ plan_grows D answer peer step now throttle old new p own =
 pub node_turn_grows : (D E : Type 0) → NodeTurnGrows D E
 node_turn_grows D E heard now answer node old new does own =
     acts_so node (NodeTurns E heard now answer) old new does
-    (turn_grows D E heard (means_at now does.before.numbers does.before.throttle) answer does.before.center does.behind.center does.does.turns own)
+    (turn_grows D E heard (means_at now does.before.numbers does.before.throttles) answer does.before.center does.behind.center does.does.turns own)
 
 pub node_plan_grows : (D : Type 0) → NodePlanGrows D
 node_plan_grows D answer peer step now node old new does own =
     acts_so node (NodePlans answer peer step now) old new does
-    (plan_grows D answer peer step now does.before.throttle.place does.before.center does.behind.center does.does.plans own)
+    (plan_grows D answer peer step now does.before.throttles does.before.center does.behind.center does.does.plans own)

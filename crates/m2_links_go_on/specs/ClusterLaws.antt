@@ -5,7 +5,7 @@ use Rattle.m2_fabric.specs.declared.socket.SocketId.{SocketId}
 use Rattle.m2_fabric.specs.Sockets.{goes_to}
 use Rattle.m2_weave.specs.m2_journal.declared.facts.PlanStep.{PlanStep}
 use Rattle.m2_history.specs.m2_record.Sources.{end_at}
-use Rattle.m2_dispatch.specs.m2_shared.Place.{Place}
+use Rattle.m2_dispatch.specs.m2_shared.declared.throttles.Throttles.{Throttles}
 use Rattle.m2_cluster.specs.m2_center.Center.{CenterNow}
 use Rattle.m2_cluster.specs.m2_center.CenterTurn.{Answer, TakesTurn}
 use Rattle.m2_cluster.specs.m2_center.Plans.{PlansIn}
@@ -23,7 +23,7 @@ TurnGrows D E = (heard : D → List Heard) (m : Means) (answer : Answer) (old ne
     AreOwn (holding_of old) → Grows (holding_of old) (holding_of new)
 
 abbrev pub PlanGrows : Type 0 → Type 0
-PlanGrows D = (answer : Answer) (peer : ℕ) (step : PlanStep) (now : ℕ) (throttle : Place) (old new : CenterNow D) → PlansIn answer peer step now throttle old new →
+PlanGrows D = (answer : Answer) (peer : ℕ) (step : PlanStep) (now : ℕ) (throttles : Throttles) (old new : CenterNow D) → PlansIn answer peer step now throttles old new →
     AreOwn (holding_of old) → Grows (holding_of old) (holding_of new)
 
 -- ---- what it brings
@@ -37,7 +37,7 @@ TurnBringsElsewhere D E = (heard : D → List Heard) (m : Means) (answer : Answe
     IsSome old.port.waiting → AreOwn (holding_of old) → BringsElsewhere old new
 
 abbrev pub PlanBringsElsewhere : Type 0 → Type 0
-PlanBringsElsewhere D = (answer : Answer) (peer : ℕ) (step : PlanStep) (now : ℕ) (throttle : Place) (old new : CenterNow D) → PlansIn answer peer step now throttle old new →
+PlanBringsElsewhere D = (answer : Answer) (peer : ℕ) (step : PlanStep) (now : ℕ) (throttles : Throttles) (old new : CenterNow D) → PlansIn answer peer step now throttles old new →
     AreOwn (holding_of old) → BringsElsewhere old new
 
 -- ---- a cluster of which one node acts

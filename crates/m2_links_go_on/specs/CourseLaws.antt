@@ -13,7 +13,8 @@ use Rattle.m2_cluster.specs.m2_center.m2_record.RecordNow.{RecordNow, Rooms}
 use Rattle.m2_cluster.specs.m2_center.m2_turn.RecordTurn.{Means}
 use Rattle.m2_dispatch.specs.Heard.{Heard}
 use Rattle.m2_dispatch.specs.m2_shared.Numbers.{SeenNumberPass}
-use Rattle.m2_dispatch.specs.m2_shared.Throttle.{SeenTakePass}
+use Rattle.m2_dispatch.specs.m2_shared.declared.peer_type.PeerType.{PeerType}
+use Rattle.m2_dispatch.specs.m2_shared.declared.throttles.TakePasses.{TakePasses}
 use Rattle.m2_fabric.specs.Port.{SeenPort, with_poll}
 use Rattle.m2_fabric.specs.Sockets.{same_socket}
 use Rattle.m2_growth.specs.Holding.{AreOwn, LeadsElsewhere}
@@ -77,13 +78,13 @@ WaitingStaysOnCourse D C may_give = (clock : C) (moment now : ℕ) (node : NodeM
 
 -- a new record is begun, and stays so where a step is added to its plan, or room is made
 pub record RecordsBegin : Type 0 where
-  pub first : (f : SideFacts) (place : ℕ) (room : Rooms) → IsBegun (record (new_record f place) { room = room })
+  pub first : (f : SideFacts) (place : ℕ) (peer : PeerType) (room : Rooms) → IsBegun (record (new_record f place peer) { room = room })
   pub planned : (x : PlanStep) (old new : RecordNow) → AddsStep (Ok tt) x old new → IsBegun old → IsBegun new
   pub roomy : (old new : RecordNow) → IsSameButRoom old new → IsBegun old → IsBegun new
 
 -- A new center of such records, which dial others than its port, where that has made nothing and nothing waits at it.
 abbrev pub CentersBeginOnCourse : (D C : Type 0) → (may_give : C → ℕ → Type 0) → Type 0
-CentersBeginOnCourse D C may_give = (clock : C) (moment entity : ℕ) (port : SeenPort) (records : List RecordNow) (fast queued : D) (bytes : SeenTakePass) (numbers : SeenNumberPass) →
+CentersBeginOnCourse D C may_give = (clock : C) (moment entity : ℕ) (port : SeenPort) (records : List RecordNow) (fast queued : D) (bytes : TakePasses) (numbers : SeenNumberPass) →
     CanBegin entity port records bytes numbers → AllByRecursion IsBegun records → AllByRecursion (LeadsElsewhere port) records →
     port.made ≡ [] → unwrap_or port.waiting [] ≡ [] → may_give clock moment →
     let c : CenterNow D = new_center entity port records fast queued bytes numbers in IsOnCourse (may_give clock) moment (node_made c) c

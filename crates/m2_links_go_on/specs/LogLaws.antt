@@ -10,7 +10,8 @@ use Rattle.m2_weave.specs.m2_journal.declared.facts.PlanStep.{PlanStep}
 use Rattle.m2_weave.specs.m2_journal.State.{State}
 use Rattle.m2_history.specs.m2_record.IsRecord.{IsRecord, IsReplayedTo}
 use Rattle.m2_history.specs.m2_record.RecordNow.{RecordNow}
-use Rattle.m2_dispatch.specs.m2_shared.Place.{Place}
+use Rattle.m2_dispatch.specs.m2_shared.declared.throttles.Throttles.{Throttles}
+use Rattle.m2_dispatch.specs.m2_shared.Gates.{Places}
 use Rattle.m2_cluster.specs.m2_center.m2_turn.declared.halves_turn.HalvesTurn.{HalvesTurn}
 use Rattle.m2_cluster.specs.m2_center.m2_turn.declared.mailing.Mailed.{Mailed}
 use Rattle.m2_cluster.specs.m2_center.m2_turn.declared.records_turn.RecordsTurn.{RecordsTurn}
@@ -53,7 +54,7 @@ RecordsStayLogged D = (heard : D → List Heard) (m : Means) (result : RecordsTu
 
 -- the mail is emptied into the queue, and that dispatches
 abbrev pub MailStaysLogged : Type 0 → Type 0
-MailStaysLogged D = (heard : D → List Heard) (place : Place) (answer : Mailed) (records : List RecordNow) (old new : Mailing D) → Mails heard place answer old new →
+MailStaysLogged D = (heard : D → List Heard) (place : Places) (answer : Mailed) (records : List RecordNow) (old new : Mailing D) → Mails heard place answer old new →
     IsLogged heard (logging records old.out old.queue.queued) → IsLogged heard (logging records new.out new.queue.queued)
 
 -- ---- all of a turn
@@ -77,7 +78,7 @@ RestStaysLogged D = (heard : D → List Heard) (old new : CenterNow D) → rest_
 
 -- and where a step is planned and taken
 abbrev pub PlansStayLogged : Type 0 → Type 0
-PlansStayLogged D = (heard : D → List Heard) (result : Answer) (peer : ℕ) (x : PlanStep) (now : ℕ) (throttle : Place) (old new : CenterNow D) → PlansIn result peer x now throttle old new →
+PlansStayLogged D = (heard : D → List Heard) (result : Answer) (peer : ℕ) (x : PlanStep) (now : ℕ) (throttles : Throttles) (old new : CenterNow D) → PlansIn result peer x now throttles old new →
     AreOwn (holding_in old) → AllByRecursion IsRecord old.records → AllByRecursion IsRecord new.records →
     IsLogged heard (logging_in old) → IsLogged heard (logging_in new)
 

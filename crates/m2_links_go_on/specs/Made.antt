@@ -20,7 +20,7 @@ side_made r = record { place = r.place; facts = r.core.facts; plan = r.plan }
 
 -- nothing was done: it is as it was made, but that its plan was filled, and for room
 abbrev pub IsBegun : RecordNow → Type 0
-IsBegun r = r ≡ record (new_record r.core.facts r.place) { plan = r.plan; room = r.room }
+IsBegun r = r ≡ record (new_record r.core.facts r.place r.core.live.granted.peer) { plan = r.plan; room = r.room }
 
 -- ---- a node
 

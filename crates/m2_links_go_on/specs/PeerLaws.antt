@@ -2,7 +2,7 @@
 -- kind, whether memory ran out or not.
 use Rattle.std.specs.Prelude.{◌≡◌, ℕ, List, [], None}
 use Rattle.m2_dispatch.specs.Heard.{Heard}
-use Rattle.m2_dispatch.specs.m2_shared.Place.{Place}
+use Rattle.m2_dispatch.specs.m2_shared.declared.throttles.Throttles.{Throttles}
 use Rattle.m2_weave.specs.m2_journal.declared.facts.PlanStep.{PlanStep}
 use Rattle.m2_history.specs.m2_record.RecordNow.{RecordNow}
 use Rattle.m2_cluster.specs.m2_center.m2_turn.RecordTurn.{Means}
@@ -32,5 +32,5 @@ RestStaysOfPeers D = (heard : D → List Heard) (old new : CenterNow D) → rest
 
 -- where a step is planned and taken
 abbrev pub PlansStayOfPeers : Type 0 → Type 0
-PlansStayOfPeers D = (heard : D → List Heard) (result : Answer) (peer : ℕ) (x : PlanStep) (now : ℕ) (throttle : Place) (old new : CenterNow D) →
-    PlansIn result peer x now throttle old new → AreOfItsPeers heard old → AreOfItsPeers heard new
+PlansStayOfPeers D = (heard : D → List Heard) (result : Answer) (peer : ℕ) (x : PlanStep) (now : ℕ) (throttles : Throttles) (old new : CenterNow D) →
+    PlansIn result peer x now throttles old new → AreOfItsPeers heard old → AreOfItsPeers heard new

@@ -6,7 +6,7 @@ use Rattle.m2_fabric.specs.declared.end.News.{News}
 use Rattle.m2_fabric.specs.declared.socket.SocketId.{SocketId}
 use Rattle.m2_fabric.specs.Port.{SeenPort, with_incoming, with_news}
 use Rattle.m2_weave.specs.m2_journal.declared.facts.PlanStep.{PlanStep}
-use Rattle.m2_dispatch.specs.m2_shared.Place.{Place}
+use Rattle.m2_dispatch.specs.m2_shared.declared.throttles.Throttles.{Throttles}
 use Rattle.m2_cluster.specs.m2_center.m2_turn.RecordTurn.{Means}
 use Rattle.m2_cluster.specs.m2_center.Center.{CenterNow}
 use Rattle.m2_cluster.specs.m2_center.CenterTurn.{Answer, TakesTurn}
@@ -51,7 +51,7 @@ abbrev pub TurnStaysUnused : (D E : Type 0) → Type 0
 TurnStaysUnused D E = (heard : D → List Heard) (m : Means) (answer : Answer) (old new : CenterNow D) → TakesTurn E heard m answer old new → AreUnused old.port → AreUnused new.port
 
 abbrev pub PlanStaysUnused : Type 0 → Type 0
-PlanStaysUnused D = (answer : Answer) (peer : ℕ) (step : PlanStep) (now : ℕ) (throttle : Place) (old new : CenterNow D) → PlansIn answer peer step now throttle old new →
+PlanStaysUnused D = (answer : Answer) (peer : ℕ) (step : PlanStep) (now : ℕ) (throttles : Throttles) (old new : CenterNow D) → PlansIn answer peer step now throttles old new →
     AreUnused old.port → AreUnused new.port
 
 -- ---- a cluster

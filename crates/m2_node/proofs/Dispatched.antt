@@ -25,11 +25,11 @@ put_alone (parcel.Discard peer) = refl
 put_alone (parcel.RemoteReset peer) = refl
 
 pub nothing_dispatched : (d : DispatcherNow) → HasDispatched [] d d
-nothing_dispatched d = record { place = refl; lasted = λ e. e; heard = λ e. sym (append-nil (heard_by d.log)) }
+nothing_dispatched d = record { throttles = refl; lasted = λ e. e; heard = λ e. sym (append-nil (heard_by d.log)) }
 
 pub dispatched_then : (xs ys : List Parcel) (a b c : DispatcherNow) → HasDispatched xs a b → HasDispatched ys b c → HasDispatched (xs ++ ys) a c
 dispatched_then xs ys a b c first second = record {
-  place = second.place ∙ first.place;
+  throttles = second.throttles ∙ first.throttles;
   lasted = λ e. first.lasted (second.lasted e);
   heard = λ e. second.heard e ∙ ap (λ l. l ++ heard_for_all ys) (first.heard (second.lasted e)) ∙ append_assoc (heard_by a.log) (heard_for_all xs) (heard_for_all ys)
       ∙ ap (λ l. heard_by a.log ++ l) (sym (heard_for_both xs ys));

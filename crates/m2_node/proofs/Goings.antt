@@ -128,7 +128,7 @@ group_stays may_give x s ws vs all g = record {
   count = one_length (Works may_give) ws vs all ∙ g.count;
   started = each_keeps may_give (λ (w : WorkerNow). w.started ≡ x.started) (λ w v works is. works.started ∙ is) ws vs all g.started;
   numbers = each_keeps may_give (λ (w : WorkerNow). w.numbers ≡ s.numbers) (λ w v works is. works.numbers ∙ is) ws vs all g.numbers;
-  throttle = each_keeps may_give (λ (w : WorkerNow). w.throttle ≡ s.throttle) (λ w v works is. works.throttle ∙ is) ws vs all g.throttle;
+  throttles = each_keeps may_give (λ (w : WorkerNow). w.throttles ≡ s.throttles) (λ w v works is. works.throttles ∙ is) ws vs all g.throttles;
 }
 
 none_stay : (may_give : ℕ → Type 0) (ws vs : List WorkerNow) → AllWork may_give ws vs → ws ≡ [] → vs ≡ []

@@ -17,7 +17,8 @@ use Rattle.m2_script.specs.m2_center.Finishing.{AllOwn}
 use Rattle.m2_script.specs.m2_center.Making.{CanBegin, new_center}
 use Rattle.m2_script.specs.m2_cluster.m2_center.m2_turn.Sessions.{IsSupplied, Supply, peer_of}
 use Rattle.m2_dispatch.specs.m2_shared.Numbers.{SeenNumberPass}
-use Rattle.m2_dispatch.specs.m2_shared.Throttle.{SeenTakePass}
+use Rattle.m2_dispatch.specs.m2_shared.Gates.{pass_places}
+use Rattle.m2_dispatch.specs.m2_shared.declared.throttles.TakePasses.{TakePasses}
 use Rattle.m2_dispatch.specs.declared.logged.Logged.{Logged}
 use Rattle.m2_journal.specs.declared.facts.PlanStep.{PlanStep}
 use Rattle.m2_links_go_on.specs.Made.{IsBegun, SideMade, side_made}
@@ -57,9 +58,9 @@ module _ (nodes : List Node) (links : List Link) (k word : ℕ) (test : RecordNo
       (distinct_filter same_addr peer_of test (records_of nodes links k word) apart)
 
   pub kept_can_begin : NewRecordsCanBegin → (lines : List DraftLine) → IsSound nodes links lines → (x : Node) → slice_get nodes k ≡ Some x →
-      (port : SeenPort) (bytes : SeenTakePass) (numbers : SeenNumberPass) → port.made ≡ [] → CanBegin x.entity port rs bytes numbers × AllOwn bytes.place rs
+      (port : SeenPort) (bytes : TakePasses) (numbers : SeenNumberPass) → port.made ≡ [] → CanBegin x.entity port rs bytes numbers × AllOwn (pass_places bytes) rs
   kept_can_begin can lines sound x there port bytes numbers unused =
-      let s : Supply = record { place = bytes.place; least = numbers.least } in
+      let s : Supply = record { places = pass_places bytes; least = numbers.least } in
       let all : CanBegin x.entity port (records_of nodes links k word) bytes numbers = (can nodes links lines sound k word x (records_of nodes links k word) there refl port bytes numbers unused).0 in
       let supplied : AllByRecursion (IsSupplied s port.made) rs = kept_supplied s port.made all.records in
       let kind : RecordNow → Type 0 = λ (r : RecordNow). r.core.facts.node.entity ≡ x.entity in (
@@ -76,7 +77,7 @@ module _ (nodes : List Node) (links : List Link) (k word : ℕ) (test : RecordNo
 
 -- ---- what such a center is
 
-pub is_beginning : (nodes : List Node) (links : List Link) (its all : List StepTowards) (k j word centers : ℕ) (x : Node) (p : PortNow) (rs : List RecordNow) (bytes : SeenTakePass) (numbers : SeenNumberPass)
+pub is_beginning : (nodes : List Node) (links : List Link) (its all : List StepTowards) (k j word centers : ℕ) (x : Node) (p : PortNow) (rs : List RecordNow) (bytes : TakePasses) (numbers : SeenNumberPass)
     (c : CenterNow (List Logged)) → centers ≡ x.centers → its ≡ steps_at_home nodes x.centers j all → IsPortFor x p → c ≡ new_center x.entity (seen_port p) rs [] [] bytes numbers →
     AllByRecursion IsBegun rs → map bare rs ≡ map bare (at_home nodes centers j (records_of nodes links k word)) →
     map side_made rs ≡ map (side_by (plan_of its)) (at_home nodes centers j (records_of nodes links k word)) → IsBeginning nodes links all k j word x c

@@ -7,16 +7,17 @@ use Rattle.m2_dispatch.specs.Heard.{Heard, heard_by}
 use Rattle.m2_dispatch.specs.Parcel.{heard_for_all}
 use Rattle.m2_dispatch.specs.declared.logged.Logged.{Logged}
 use Rattle.m2_dispatch.specs.declared.parcel.Parcel.{Parcel}
-use Rattle.m2_dispatch.specs.m2_shared.Place.{IsShared, Place}
+use Rattle.m2_dispatch.specs.m2_shared.Gates.{AreShared}
 use Rattle.m2_dispatch.specs.m2_shared.declared.ids.Ids.{Ids}
+use Rattle.m2_dispatch.specs.m2_shared.declared.throttles.Throttles.{Throttles}
 use Rattle.m2_links_go_on.specs.ClusterTold.{OneByOne}
 use Rattle.m2_mailbox.specs.Merge.{IsMerge}
-use Rattle.m2_mailbox.specs.Passes.{IsGetPassOf, owner_of, puts_of, taken_of}
+use Rattle.m2_mailbox.specs.Passes.{IsGetPassOf, puts_of, taken_of}
 use Rattle.m2_mailbox.specs.declared.passes.GetPass.{GetPass}
 use Rattle.m2_mailbox.proofs.Sublists.{one_list}
 use Rattle.m2_scenario.specs.declared.node.Node.{Node}
 use Rattle.m2_script.specs.m2_center.Center.{CenterNow}
-use Rattle.m2_node.specs.Dispatching.{DispatcherNow, HasDispatched, HasEmptied, IsServing, Mail, Serves, ServingNow, taken_by}
+use Rattle.m2_node.specs.Dispatching.{DispatcherNow, HasDispatched, HasEmptied, IsServing, Mail, Serves, ServingNow, taken_by, throttles_of}
 use Rattle.m2_node.specs.Handing.{AreHanded, IsDispatched, IsSending, SenderNow, handed_by, worker_of}
 use Rattle.m2_node.specs.Lists.{SideBySide}
 use Rattle.m2_node.specs.Posts.{AreClosable, AreDispatched, ArePosts, AreServersOf, ClosesAll, ClosesSender, IsServerOf, PostsNow}
@@ -35,7 +36,7 @@ sender_closed mail s g old mid new sends e d =
     let own : taken_of g ++ e.left ≡ sends.own = one_list sends.own (taken_of g ++ e.left) (subst (λ (ps : List (List Parcel)). IsMerge Parcel ps (taken_of g ++ e.left)) sends.puts e.whole) in
     let both = dispatched_then e.left s.waiting old mid new e.dispatched d in
     record {
-      place = both.place;
+      throttles = both.throttles;
       lasted = both.lasted;
       more = heard_for_all (e.left ++ s.waiting);
       whole = sends.handed ∙ ap (λ (ps : List Parcel). heard_for_all (ps ++ s.waiting)) (sym own) ∙ ap heard_for_all (append_assoc (taken_of g) e.left s.waiting)
@@ -56,14 +57,14 @@ one_closed before g gets handed old new c were lasted =
     (ap (λ (l : List Heard). before ++ l ∷ map taken_by gets) (sym c.whole) ∙ sym (append_assoc before (handed ∷ []) (map taken_by gets))) more)
 
 -- those to which a dispatcher's thread has the rights, where there are as many
-pub closable : (place : Place) (gets : List (GetPass Parcel Ids)) (mails : List Mail) (senders : List SenderNow) → SideBySide IsSending mails senders → length gets ≤ length senders →
-    ((j : ℕ) (m : Mail) (g : GetPass Parcel Ids) → slice_get mails j ≡ Some m → slice_get gets j ≡ Some g → IsGetPassOf m g × ((owner_of m).place ≡ place)) → AreClosable place gets mails senders
-closable place [] mails senders sending few ours = tt
-closable place (g ∷ gets) mails [] sending few ours = absurd (omega (arith, few))
-closable place (g ∷ gets) [] (s ∷ senders) sending few ours = absurd sending
-closable place (g ∷ gets) (m ∷ mails) (s ∷ senders) sending few ours =
+pub closable : (throttles : Throttles) (gets : List (GetPass Parcel Ids)) (mails : List Mail) (senders : List SenderNow) → SideBySide IsSending mails senders → length gets ≤ length senders →
+    ((j : ℕ) (m : Mail) (g : GetPass Parcel Ids) → slice_get mails j ≡ Some m → slice_get gets j ≡ Some g → IsGetPassOf m g × (throttles_of m ≡ throttles)) → AreClosable throttles gets mails senders
+closable throttles [] mails senders sending few ours = tt
+closable throttles (g ∷ gets) mails [] sending few ours = absurd (omega (arith, few))
+closable throttles (g ∷ gets) [] (s ∷ senders) sending few ours = absurd sending
+closable throttles (g ∷ gets) (m ∷ mails) (s ∷ senders) sending few ours =
     let its = ours 0 m g refl refl in
-    ((its.0, its.1, sending.0), closable place gets mails senders sending.1 (omega (arith, few)) (λ j n h p q. ours (suc j) n h p q))
+    ((its.0, its.1, sending.0), closable throttles gets mails senders sending.1 (omega (arith, few)) (λ j n h p q. ours (suc j) n h p q))
 
 -- what these threads' centers have handed on
 abbrev pub handed_in : List SenderNow → List (List Heard)
@@ -82,12 +83,12 @@ pub record ClosedSoFar (gets_all gets : List (GetPass Parcel Ids)) (mails_all ma
   pub senders_are : gone ++ take (length gets) senders ≡ take (length gets_all) senders_all
   pub senders_left : drop (length gets) senders ≡ drop (length gets_all) senders_all
   pub mails_left : drop (length gets) mails ≡ drop (length gets_all) mails_all
-  pub closable_still : AreClosable old.place gets mails senders
-  pub place : new.place ≡ old.place
+  pub closable_still : AreClosable old.throttles gets mails senders
+  pub throttles : new.throttles ≡ old.throttles
   pub lasted : new.lost ≡ false → old.lost ≡ false
   pub merged : (old.lost ≡ false → IsMerge Heard (map taken_by gets_all) (heard_by old.log)) → new.lost ≡ false → IsMerge Heard (handed_in gone ++ map taken_by gets) (heard_by new.log)
 
-pub none_closed : (gets : List (GetPass Parcel Ids)) (mails : List Mail) (senders : List SenderNow) (workers : List WorkerNow) (d : DispatcherNow) → AreClosable d.place gets mails senders →
+pub none_closed : (gets : List (GetPass Parcel Ids)) (mails : List Mail) (senders : List SenderNow) (workers : List WorkerNow) (d : DispatcherNow) → AreClosable d.throttles gets mails senders →
     ClosedSoFar gets gets mails mails senders senders workers workers d d
 none_closed gets mails senders workers d can = record {
   gone = [];
@@ -96,7 +97,7 @@ none_closed gets mails senders workers d can = record {
   senders_left = refl;
   mails_left = refl;
   closable_still = can;
-  place = refl;
+  throttles = refl;
   lasted = λ e. e;
   merged = λ were lasted. were lasted;
 }
@@ -111,7 +112,7 @@ module _ (gets_all gets gets_new : List (GetPass Parcel Ids)) (mails_all mails m
       (subst (λ (gs : List (GetPass Parcel Ids)). ClosedSoFar gets_all gs mails_all mails senders_all senders workers_old workers old mid) first_get c))
 
   -- the next one
-  pub next_closable : IsGetPassOf m g × ((owner_of m).place ≡ old.place) × IsSending m s
+  pub next_closable : IsGetPassOf m g × (throttles_of m ≡ old.throttles) × IsSending m s
   next_closable = so_far.closable_still.0
 
   pub one_more_closed : (workers_new : List WorkerNow) (new : DispatcherNow) → workers_new ≡ workers ++ s.worker ∷ [] → ClosesSender (taken_by g) (handed_by s.worker.center) mid new →
@@ -124,7 +125,7 @@ module _ (gets_all gets gets_new : List (GetPass Parcel Ids)) (mails_all mails m
     senders_left = so_far.senders_left;
     mails_left = so_far.mails_left;
     closable_still = so_far.closable_still.1;
-    place = closes.place ∙ so_far.place;
+    throttles = closes.throttles ∙ so_far.throttles;
     lasted = λ lasted. so_far.lasted (closes.lasted lasted);
     merged = λ were lasted.
         subst (λ (ls : List (List Heard)). IsMerge Heard (ls ++ map taken_by gets_new) (heard_by new.log)) (sym (handed_both so_far.gone (s ∷ [])))
@@ -149,7 +150,7 @@ all_closed gets_all gets mails_all mails senders_all senders workers_old workers
       senders_left = c.senders_left;
       mails_left = c.mails_left;
       closes = λ lasted. record {
-        place = c.place;
+        throttles = c.throttles;
         lasted = lasted;
         handed = λ were.
             subst (λ (ls : List (List Heard)). IsMerge Heard ls (heard_by new.log)) (append-nil (handed_in c.gone) ∙ ap handed_in gone) (c.merged were lasted);
@@ -214,17 +215,17 @@ module _ (nodes : List Node) (shares : List ShareNow) (k : ℕ) (mails_all mails
   pub enough : length v.gets ≤ length senders
   enough = omega (arith, count, group_here.0.count, length-take x.centers (map worker_of senders), length-map senders worker_of)
 
-  pub server_closable : AreClosable v.dispatcher.place v.gets mails senders
+  pub server_closable : AreClosable v.dispatcher.throttles v.gets mails senders
   server_closable =
-      closable v.dispatcher.place v.gets mails senders c.sending enough
+      closable v.dispatcher.throttles v.gets mails senders c.sending enough
       (λ j m g p q. serving_here.0.ours j m g
       (ap (λ (n : ℕ). slice_get mails_all (n + j)) server_here.0.first_is ∙ sym (get_drop mails_all c.first j) ∙ ap (λ (ms : List Mail). slice_get ms j) (sym c.mails_left) ∙ p) q)
 
   pub server_merged : v.dispatcher.lost ≡ false → IsMerge Heard (map taken_by v.gets) (heard_by v.dispatcher.log)
   server_merged = serving_here.0.merged
 
-  module _ (mails_new : List Mail) (senders_new : List SenderNow) (workers_new : List WorkerNow) (dispatchers_new : List DispatcherNow) (d : DispatcherNow) (shared : IsShared s.throttle.place)
-      (place : d.place ≡ v.dispatcher.place) (handed : AreHanded (map center_of (map worker_of (take (length v.gets) senders))) (heard_by d.log))
+  module _ (mails_new : List Mail) (senders_new : List SenderNow) (workers_new : List WorkerNow) (dispatchers_new : List DispatcherNow) (d : DispatcherNow) (shared : AreShared s.throttles)
+      (at : d.throttles ≡ v.dispatcher.throttles) (handed : AreHanded (map center_of (map worker_of (take (length v.gets) senders))) (heard_by d.log))
       (mails_left : mails_new ≡ drop (length v.gets) mails) (senders_left : senders_new ≡ drop (length v.gets) senders)
       (workers_last : workers_new ≡ workers ++ map worker_of (take (length v.gets) senders)) (dispatcher_last : dispatchers_new ≡ dispatchers ++ d ∷ []) where
     abbrev its : List WorkerNow
@@ -236,14 +237,14 @@ module _ (nodes : List Node) (shares : List ShareNow) (k : ℕ) (mails_all mails
     those_left : map worker_of senders_new ≡ drop x.centers (map worker_of senders)
     those_left = ap (map worker_of) senders_left ∙ sym (drop-map worker_of (length v.gets) senders) ∙ ap (λ (n : ℕ). drop n (map worker_of senders)) count
 
-    dispatched : IsDispatched s.throttle.place (map center_of its) d
-    dispatched = record { at = place ∙ server_here.0.place; shared = shared; handed = λ lasted. handed }
+    dispatched : IsDispatched s.throttles (map center_of its) d
+    dispatched = record { at = at ∙ server_here.0.throttles; shared = shared; handed = λ lasted. handed }
 
     dispatched_on : (ws : List WorkerNow) (ds : List DispatcherNow) → AreDispatched (drop (k + 1) nodes) (drop (k + 1) shares) ws ds → AreDispatched (drop k nodes) (drop k shares) (its ++ ws) (d ∷ ds)
     dispatched_on ws ds are =
         subst (λ (xs : List Node). AreDispatched xs (drop k shares) (its ++ ws) (d ∷ ds)) (sym (drop_here nodes k x here))
         (subst (λ (ss : List ShareNow). AreDispatched (x ∷ drop (k + 1) nodes) ss (its ++ ws) (d ∷ ds)) (sym (drop_here shares k s there)) (
-          subst (λ (vs : List WorkerNow). IsDispatched s.throttle.place (map center_of vs) d) (sym (take_at its ws x.centers as_many)) dispatched,
+          subst (λ (vs : List WorkerNow). IsDispatched s.throttles (map center_of vs) d) (sym (take_at its ws x.centers as_many)) dispatched,
           subst (λ (vs : List WorkerNow). AreDispatched (drop (k + 1) nodes) (drop (k + 1) shares) vs ds) (sym (drop_at its ws x.centers as_many)) are,
         ))
 
@@ -291,7 +292,7 @@ servers_still first (x ∷ nodes) [] old new all are = absurd are
 servers_still first (x ∷ nodes) (s ∷ shares) [] new all are = absurd are
 servers_still first (x ∷ nodes) (s ∷ shares) (v ∷ old) [] all are = absurd all
 servers_still first (x ∷ nodes) (s ∷ shares) (v ∷ old) (w ∷ new) all are = (
-  record { count = all.0.count ∙ are.0.count; first_is = all.0.first ∙ are.0.first_is; place = all.0.place ∙ are.0.place; started = all.0.started ∙ are.0.started },
+  record { count = all.0.count ∙ are.0.count; first_is = all.0.first ∙ are.0.first_is; throttles = all.0.throttles ∙ are.0.throttles; started = all.0.started ∙ are.0.started },
   servers_still (first + x.centers) nodes shares old new all.1 are.1,
 )
 

@@ -8,13 +8,14 @@ use Rattle.std.proofs.lemmas.List.Elements.{filter_map-append}
 use Rattle.std.proofs.lemmas.Option.{get_or_from_slice_get, none-some, same_Some, slice_get_within}
 use Rattle.m2_fabric.proofs.m2_lemmas.Lists.{all_at, all_by_places, all_of_map, all_so_of}
 use Rattle.m2_fabric.proofs.m2_lemmas.Numbers.{unlike_turned}
+use Rattle.m2_links_go_on.proofs.m2_history.m2_record.m2_core.Holding.{nothing_owned}
 use Rattle.m2_links_go_on.specs.Made.{IsBegun}
 use Rattle.m2_journal.specs.declared.facts.PlanStep.{PlanStep}
 use Rattle.m2_links_go_on.specs.ClusterTold.{OneByOne}
 use Rattle.m2_links_go_on.specs.Logged.{AreOfTheirPeers}
 use Rattle.m2_script.specs.m2_record.Calls.{Owns, planned_too}
 use Rattle.m2_script.specs.m2_record.RecordNow.{RecordNow, Rooms}
-use Rattle.m2_shared.specs.Place.{Place}
+use Rattle.m2_shared.specs.Gates.{Places}
 use Rattle.m2_node.specs.Planned.{IsPlaceTowards, IsPlannedBy, NoneTowards, plan_of, towards_in}
 use Rattle.m2_node.specs.declared.planning.StepTowards.{StepTowards}
 
@@ -147,8 +148,8 @@ begun_stays steps old new by all =
     each_by (IsPlannedBy steps) IsBegun (λ x y e b. subst IsBegun (sym e) (begun_with x (x.plan ++ plan_of steps x.place) y.room b)) old new by all
 
 -- nothing was granted to one that is begun
-pub begun_owns : (place : Place) (r : RecordNow) → IsBegun r → Owns place r
-begun_owns place r is = subst (Owns place) (sym is) (record { feed = tt; parcels = tt })
+pub begun_owns : (places : Places) (r : RecordNow) → IsBegun r → Owns places r
+begun_owns places r is = subst (Owns places) (sym is) (record { feed = nothing_owned places _; parcels = tt })
 
 -- the last of all, and those before it
 pub before_last : (P : RecordNow → Type 0) (rs : List RecordNow) (r : RecordNow) → AllByRecursion P (rs ++ r ∷ []) → AllByRecursion P rs × P r

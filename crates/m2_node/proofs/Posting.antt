@@ -10,15 +10,16 @@ use Rattle.m2_bytes.proofs.m2_lemmas.Lists.{all_drop, all_last, all_so}
 use Rattle.m2_dispatch.specs.Heard.{Heard, heard_by}
 use Rattle.m2_dispatch.specs.Parcel.{heard_for_all}
 use Rattle.m2_dispatch.specs.declared.parcel.Parcel.{Parcel}
-use Rattle.m2_dispatch.specs.m2_shared.Place.{IsShared, Place}
-use Rattle.m2_dispatch.specs.m2_shared.Throttle.{SeenTakePass, SeenThrottle}
+use Rattle.m2_dispatch.specs.m2_shared.Gates.{ArePassesOf, AreShared}
+use Rattle.m2_dispatch.specs.m2_shared.declared.throttles.TakePasses.{TakePasses}
+use Rattle.m2_dispatch.specs.m2_shared.declared.throttles.Throttles.{Throttles}
 use Rattle.m2_dispatch.specs.m2_shared.declared.ids.Ids.{Ids}
 use Rattle.m2_mailbox.specs.Merge.{IsMerge, IsSublist}
-use Rattle.m2_mailbox.specs.Passes.{IsGetPassOf, owner_of, taken_of}
+use Rattle.m2_mailbox.specs.Passes.{IsGetPassOf, taken_of}
 use Rattle.m2_mailbox.specs.declared.passes.GetPass.{GetPass}
 use Rattle.m2_mailbox.specs.declared.passes.PutPass.{PutPass}
 use Rattle.m2_scenario.specs.declared.node.Node.{Node}
-use Rattle.m2_node.specs.Dispatching.{IsNewMail, IsServing, Mail, ServingNow, taken_by}
+use Rattle.m2_node.specs.Dispatching.{IsNewMail, IsServing, Mail, ServingNow, taken_by, throttles_of}
 use Rattle.m2_node.specs.Handing.{HasHandedNothing, IsSending, SenderNow, worker_of}
 use Rattle.m2_node.specs.Lists.{SideBySide}
 use Rattle.m2_node.specs.Posts.{AddsPosts, ArePosts, AreServersOf, PostsNow}
@@ -31,10 +32,10 @@ use Rattle.m2_node.proofs.Workers.{first_group}
 
 -- ---- the threads of one node
 
--- a mail for what the throttle at this place has granted for, and the right to take out of it, by which nothing was taken
-pub record IsUntaken (place : Place) (m : Mail) (g : GetPass Parcel Ids) : Type 0 where
+-- a mail for what these throttles have granted for, and the right to take out of it, by which nothing was taken
+pub record IsUntaken (throttles : Throttles) (m : Mail) (g : GetPass Parcel Ids) : Type 0 where
   pub gets : IsGetPassOf m g
-  pub owner : (owner_of m).place ≡ place
+  pub owner : throttles_of m ≡ throttles
   pub nothing : taken_of g ≡ []
 
 -- what is made of a node's workers, where so many are left: threads that have handed on nothing, each with its mail
@@ -46,8 +47,8 @@ pub record AddedSoFar (s : ShareNow) (left : ℕ) (senders_old : List SenderNow)
   pub so_far : map worker_of added ++ take left ws ≡ all
   pub behind : drop left ws ≡ others
   pub sending : SideBySide IsSending fresh added
-  pub untaken : SideBySide (IsUntaken s.throttle.place) fresh gets
-  pub throttle : AllByRecursion (λ (w : WorkerNow). w.throttle ≡ s.throttle) (take left ws)
+  pub untaken : SideBySide (IsUntaken s.throttles) fresh gets
+  pub throttles : AllByRecursion (λ (w : WorkerNow). w.throttles ≡ s.throttles) (take left ws)
   pub nothing : AllByRecursion HasHandedNothing (take left ws)
 
 pub none_added : (x : Node) (s : ShareNow) (senders_old : List SenderNow) (mails_old : List Mail) (senders : List SenderNow) (mails : List Mail) (gets : List (GetPass Parcel Ids)) (ws : List WorkerNow) →
@@ -61,17 +62,17 @@ none_added x s senders_old mails_old senders mails gets ws same_senders same_mai
   so_far = refl;
   behind = refl;
   sending = tt;
-  untaken = subst (λ (gs : List (GetPass Parcel Ids)). SideBySide (IsUntaken s.throttle.place) [] gs) (sym none) tt;
-  throttle = group.throttle;
+  untaken = subst (λ (gs : List (GetPass Parcel Ids)). SideBySide (IsUntaken s.throttles) [] gs) (sym none) tt;
+  throttles = group.throttles;
   nothing = nothing;
 }
 
 -- a worker that has handed on nothing sends with a new mail
-begins_to_send : (s : ShareNow) (w : WorkerNow) (m : Mail) (put : PutPass Parcel Ids) (g : GetPass Parcel Ids) (waiting : List Parcel) → IsShared s.throttle.place → w.throttle ≡ s.throttle →
-    HasHandedNothing w → IsNewMail s.throttle.place m put g → waiting ≡ [] → IsSending m (record { worker = w; put = put; waiting = waiting })
-begins_to_send s w m put g waiting shared throttle nothing n none = record {
-  owner = n.owner ∙ ap (λ (t : SeenThrottle). t.place) (sym throttle);
-  shared = subst (λ (t : SeenThrottle). IsShared t.place) (sym throttle) shared;
+begins_to_send : (s : ShareNow) (w : WorkerNow) (m : Mail) (put : PutPass Parcel Ids) (g : GetPass Parcel Ids) (waiting : List Parcel) → AreShared s.throttles → w.throttles ≡ s.throttles →
+    HasHandedNothing w → IsNewMail s.throttles m put g → waiting ≡ [] → IsSending m (record { worker = w; put = put; waiting = waiting })
+begins_to_send s w m put g waiting shared throttles nothing n none = record {
+  owner = n.owner ∙ sym throttles;
+  shared = subst AreShared (sym throttles) shared;
   ours = n.puts;
   whole = n.whole;
   room = n.room;
@@ -82,14 +83,14 @@ begins_to_send s w m put g waiting shared throttle nothing n none = record {
 
 pub one_more_added : (s : ShareNow) (left : ℕ) (senders_old : List SenderNow) (mails_old : List Mail) (senders senders_new : List SenderNow) (mails mails_new : List Mail)
     (gets gets_new : List (GetPass Parcel Ids)) (ws rest all others : List WorkerNow) (w : WorkerNow) (m : Mail) (put : PutPass Parcel Ids) (g : GetPass Parcel Ids) (waiting : List Parcel) →
-    IsShared s.throttle.place → AddedSoFar s (suc left) senders_old mails_old senders mails gets ws all others → ws ≡ w ∷ rest →
-    senders_new ≡ senders ++ record { worker = w; put = put; waiting = waiting } ∷ [] → mails_new ≡ mails ++ m ∷ [] → gets_new ≡ gets ++ g ∷ [] → IsNewMail s.throttle.place m put g → waiting ≡ [] →
+    AreShared s.throttles → AddedSoFar s (suc left) senders_old mails_old senders mails gets ws all others → ws ≡ w ∷ rest →
+    senders_new ≡ senders ++ record { worker = w; put = put; waiting = waiting } ∷ [] → mails_new ≡ mails ++ m ∷ [] → gets_new ≡ gets ++ g ∷ [] → IsNewMail s.throttles m put g → waiting ≡ [] →
     AddedSoFar s left senders_old mails_old senders_new mails_new gets_new rest all others
 one_more_added s left senders_old mails_old senders senders_new mails mails_new gets gets_new ws rest all others w m put g waiting shared so_far first sender_last mail_last get_last n none =
     let a : AddedSoFar s (suc left) senders_old mails_old senders mails gets (w ∷ rest) all others =
     subst (λ (vs : List WorkerNow). AddedSoFar s (suc left) senders_old mails_old senders mails gets vs all others) first so_far in
     let it : SenderNow = record { worker = w; put = put; waiting = waiting } in
-    let sends : IsSending m it = begins_to_send s w m put g waiting shared a.throttle.0 a.nothing.0 n none in
+    let sends : IsSending m it = begins_to_send s w m put g waiting shared a.throttles.0 a.nothing.0 n none in
     record {
       added = a.added ++ it ∷ [];
       fresh = a.fresh ++ m ∷ [];
@@ -98,17 +99,17 @@ one_more_added s left senders_old mails_old senders senders_new mails mails_new 
       so_far = ap (λ (vs : List WorkerNow). vs ++ take left rest) (map-append worker_of a.added (it ∷ [])) ∙ append_assoc (map worker_of a.added) (w ∷ []) (take left rest) ∙ a.so_far;
       behind = a.behind;
       sending = side_last IsSending a.fresh a.added m it a.sending sends;
-      untaken = subst (λ (gs : List (GetPass Parcel Ids)). SideBySide (IsUntaken s.throttle.place) (a.fresh ++ m ∷ []) gs) (sym get_last)
-          (side_last (IsUntaken s.throttle.place) a.fresh gets m g a.untaken (record { gets = n.gets; owner = n.owner; nothing = n.nothing_taken }));
-      throttle = a.throttle.1;
+      untaken = subst (λ (gs : List (GetPass Parcel Ids)). SideBySide (IsUntaken s.throttles) (a.fresh ++ m ∷ []) gs) (sym get_last)
+          (side_last (IsUntaken s.throttles) a.fresh gets m g a.untaken (record { gets = n.gets; owner = n.owner; nothing = n.nothing_taken }));
+      throttles = a.throttles.1;
       nothing = a.nothing.1;
     }
 
 -- the same, by how many of the node's threads came before it
 pub next_added : (s : ShareNow) (most n : ℕ) (senders_old : List SenderNow) (mails_old : List Mail) (senders senders_new : List SenderNow) (mails mails_new : List Mail)
     (gets gets_new : List (GetPass Parcel Ids)) (ws rest all others : List WorkerNow) (w : WorkerNow) (m : Mail) (put : PutPass Parcel Ids) (g : GetPass Parcel Ids) (waiting : List Parcel) →
-    n < most → IsShared s.throttle.place → AddedSoFar s (most - n) senders_old mails_old senders mails gets ws all others → ws ≡ w ∷ rest →
-    senders_new ≡ senders ++ record { worker = w; put = put; waiting = waiting } ∷ [] → mails_new ≡ mails ++ m ∷ [] → gets_new ≡ gets ++ g ∷ [] → IsNewMail s.throttle.place m put g → waiting ≡ [] →
+    n < most → AreShared s.throttles → AddedSoFar s (most - n) senders_old mails_old senders mails gets ws all others → ws ≡ w ∷ rest →
+    senders_new ≡ senders ++ record { worker = w; put = put; waiting = waiting } ∷ [] → mails_new ≡ mails ++ m ∷ [] → gets_new ≡ gets ++ g ∷ [] → IsNewMail s.throttles m put g → waiting ≡ [] →
     AddedSoFar s (most - (n + 1)) senders_old mails_old senders_new mails_new gets_new rest all others
 next_added s most n senders_old mails_old senders senders_new mails mails_new gets gets_new ws rest all others w m put g waiting less shared so_far first sender_last mail_last get_last new none =
     let next : most - n ≡ suc (most - (n + 1)) = omega (arith, less) in
@@ -148,20 +149,20 @@ behind_all xs ys j = sym (get_drop (xs ++ ys) (length xs) j) ∙ ap (λ (zs : Li
 -- the dispatcher's thread of a node, before it takes anything
 abbrev new_server : ShareNow → (started : Bool) → (first : ℕ) → List (GetPass Parcel Ids) → ServingNow
 new_server s started first gets = record {
-  dispatcher = record { place = s.throttle.place; log = []; lost = false };
+  dispatcher = record { throttles = s.throttles; log = []; lost = false };
   gets = gets;
   first = first;
   started = started;
   watch = new_watch;
 }
 
-serves_fresh : (s : ShareNow) (started : Bool) (mails_old fresh : List Mail) (gets : List (GetPass Parcel Ids)) → SideBySide (IsUntaken s.throttle.place) fresh gets →
+serves_fresh : (s : ShareNow) (started : Bool) (mails_old fresh : List Mail) (gets : List (GetPass Parcel Ids)) → SideBySide (IsUntaken s.throttles) fresh gets →
     IsServing (mails_old ++ fresh) (new_server s started (length mails_old) gets)
 serves_fresh s started mails_old fresh gets untaken = record {
   ours = λ j m g p q.
-      let u = side_get (IsUntaken s.throttle.place) fresh gets untaken j m g (sym (behind_all mails_old fresh j) ∙ p) q in
+      let u = side_get (IsUntaken s.throttles) fresh gets untaken j m g (sym (behind_all mails_old fresh j) ∙ p) q in
       (u.gets, u.owner);
-  merged = λ lasted. nothing_merged gets (side_right (IsUntaken s.throttle.place) IsUnused fresh gets (λ m g u. u.nothing) untaken);
+  merged = λ lasted. nothing_merged gets (side_right (IsUntaken s.throttles) IsUnused fresh gets (λ m g u. u.nothing) untaken);
 }
 
 pub all_added : (x : Node) (s : ShareNow) (most n : ℕ) (old : PostsNow) (senders : List SenderNow) (mails : List Mail) (gets : List (GetPass Parcel Ids)) (servers : List ServingNow)
@@ -183,9 +184,9 @@ all_added x s most n old senders mails gets servers ws all others behind group s
       workers_are = workers_are;
       sending = a.sending;
       server_is = record {
-        count = omega (arith, side_length (IsUntaken s.throttle.place) a.fresh gets a.untaken, side_length IsSending a.fresh a.added a.sending, length-map a.added worker_of, ap length workers_are, group.count);
+        count = omega (arith, side_length (IsUntaken s.throttles) a.fresh gets a.untaken, side_length IsSending a.fresh a.added a.sending, length-map a.added worker_of, ap length workers_are, group.count);
         first_is = refl;
-        place = refl;
+        throttles = refl;
         started = refl;
       };
       serving = subst (λ (ms : List Mail). IsServing ms v) (sym a.mails_are) (serves_fresh s x.started old.mails a.fresh gets a.untaken);
@@ -302,7 +303,7 @@ all_posts nodes shares k whole left p most so_far =
     }
 
 -- the right of the next node's dispatcher
-pub first_right : (shares : List ShareNow) (rights rest : List SeenTakePass) (k : ℕ) (s : ShareNow) (r : SeenTakePass) → slice_get shares k ≡ Some s → rights ≡ r ∷ rest → AreRights (drop k shares) rights →
-    (r.place ≡ s.throttle.place) × AreRights (drop (k + 1) shares) rest
+pub first_right : (shares : List ShareNow) (rights rest : List TakePasses) (k : ℕ) (s : ShareNow) (r : TakePasses) → slice_get shares k ≡ Some s → rights ≡ r ∷ rest → AreRights (drop k shares) rights →
+    ArePassesOf s.throttles r × AreRights (drop (k + 1) shares) rest
 first_right shares rights rest k s r there first are =
-    subst (λ (rs : List SeenTakePass). AreRights (s ∷ drop (k + 1) shares) rs) first (subst (λ (ss : List ShareNow). AreRights ss rights) (drop_here shares k s there) are)
+    subst (λ (rs : List TakePasses). AreRights (s ∷ drop (k + 1) shares) rs) first (subst (λ (ss : List ShareNow). AreRights ss rights) (drop_here shares k s there) are)

@@ -9,9 +9,9 @@ use Rattle.m2_dispatch.specs.Parcel.{heard_for_all}
 use Rattle.m2_dispatch.specs.declared.parcel.Parcel.{Parcel}
 use Rattle.m2_dispatch.specs.m2_shared.declared.ids.Ids.{Ids}
 use Rattle.m2_mailbox.specs.Merge.{IsMerge}
-use Rattle.m2_mailbox.specs.Passes.{IsGetPassOf, owner_of, taken_of}
+use Rattle.m2_mailbox.specs.Passes.{IsGetPassOf, taken_of}
 use Rattle.m2_mailbox.specs.declared.passes.GetPass.{GetPass}
-use Rattle.m2_node.specs.Dispatching.{DispatcherNow, HasDispatched, IsServing, Mail, Serves, ServingNow, taken_by}
+use Rattle.m2_node.specs.Dispatching.{DispatcherNow, HasDispatched, IsServing, Mail, Serves, ServingNow, taken_by, throttles_of}
 use Rattle.m2_node.proofs.Dispatched.{heard_for_both}
 use Rattle.m2_node.proofs.Merging.{merge_at}
 
@@ -33,22 +33,22 @@ module _ (mails : List Mail) (s : ServingNow) (d : DispatcherNow) (j : ℕ) (m :
   abbrev after : ServingNow
   after = record s { dispatcher = d; gets = slice_set s.gets j h }
 
-  ours_at : (i : ℕ) (n : Mail) (k : GetPass Parcel Ids) → slice_get mails (s.first + i) ≡ Some n → slice_get (slice_set s.gets j h) i ≡ Some k → IsGetPassOf n k × ((owner_of n).place ≡ d.place)
+  ours_at : (i : ℕ) (n : Mail) (k : GetPass Parcel Ids) → slice_get mails (s.first + i) ≡ Some n → slice_get (slice_set s.gets j h) i ≡ Some k → IsGetPassOf n k × (throttles_of n ≡ d.throttles)
   ours_at i n k a b = go (i == j) refl
     where
-      go : (c : Bool) → (i == j) ≡ c → IsGetPassOf n k × ((owner_of n).place ≡ d.place)
+      go : (c : Bool) → (i == j) ≡ c → IsGetPassOf n k × (throttles_of n ≡ d.throttles)
       go true e =
           let same : i ≡ j = eqb-true i j e in
           let here : slice_get (slice_set s.gets j h) j ≡ Some k = subst (λ (q : ℕ). slice_get (slice_set s.gets j h) q ≡ Some k) same b in
           let it : k ≡ h = set_here s.gets j g h k at_get here in
           let its : Some m ≡ Some n = sym at_mail ∙ subst (λ (q : ℕ). slice_get mails (s.first + q) ≡ Some n) same a in
           let mail : m ≡ n = same_Some m n its in
-          subst (λ (z : Mail). IsGetPassOf z k × ((owner_of z).place ≡ d.place)) mail
-          (subst (λ (z : GetPass Parcel Ids). IsGetPassOf m z) (sym it) ours, (serving.ours j m g at_mail at_get).1 ∙ sym does.place)
+          subst (λ (z : Mail). IsGetPassOf z k × (throttles_of z ≡ d.throttles)) mail
+          (subst (λ (z : GetPass Parcel Ids). IsGetPassOf m z) (sym it) ours, (serving.ours j m g at_mail at_get).1 ∙ sym does.throttles)
       go false e =
           let apart : i ≡ j → ⊥ = eqb-false i j e in
           let was = serving.ours i n k a (set_elsewhere s.gets j i h k apart b) in
-          (was.0, was.1 ∙ sym does.place)
+          (was.0, was.1 ∙ sym does.throttles)
 
   longer : taken_by h ≡ taken_by g ++ heard_for_all more
   longer = ap heard_for_all taken ∙ heard_for_both (taken_of g) more
@@ -61,10 +61,10 @@ module _ (mails : List Mail) (s : ServingNow) (d : DispatcherNow) (j : ℕ) (m :
   }
 
   pub serves_on : Serves s after
-  serves_on = record { place = does.place; count = set_keeps_length s.gets j g h at_get; first = refl; started = refl }
+  serves_on = record { throttles = does.throttles; count = set_keeps_length s.gets j g h at_get; first = refl; started = refl }
 
 pub serves_not : (s : ServingNow) → Serves s s
-serves_not s = record { place = refl; count = refl; first = refl; started = refl }
+serves_not s = record { throttles = refl; count = refl; first = refl; started = refl }
 
 pub serves_then : (a b c : ServingNow) → Serves a b → Serves b c → Serves a c
-serves_then a b c x y = record { place = y.place ∙ x.place; count = y.count ∙ x.count; first = y.first ∙ x.first; started = y.started ∙ x.started }
+serves_then a b c x y = record { throttles = y.throttles ∙ x.throttles; count = y.count ∙ x.count; first = y.first ∙ x.first; started = y.started ∙ x.started }

@@ -3,12 +3,14 @@ use Rattle.std.proofs.Common.{◌≡◌, ◌≢◌, ◌⊎◌, inl, inr, ◌∙�
 use Rattle.std.specs.Bool.{OnFalse, OnTrue}
 use Rattle.std.specs.Prelude.{slice_get, IfSome}
 use Rattle.m2_dispatch.specs.Heard.{Heard, heard_by}
-use Rattle.m2_dispatch.specs.Parcel.{heard_for_all}
+use Rattle.m2_bytes.proofs.m2_lemmas.Lists.{all_append}
+use Rattle.m2_dispatch.specs.Parcel.{AllOwned, IsOwned, heard_for_all}
+use Rattle.m2_dispatch.specs.declared.logged.Logged.{Logged}
 use Rattle.m2_dispatch.specs.declared.parcel.Parcel.{Parcel}
-use Rattle.m2_dispatch.specs.m2_shared.Place.{IsShared, Place}
+use Rattle.m2_dispatch.specs.m2_shared.Gates.{AreShared, Places, places}
 use Rattle.m2_dispatch.specs.m2_shared.declared.ids.Ids.{Ids}
 use Rattle.m2_dispatch.specs.m2_shared.Numbers.{SeenNumbers}
-use Rattle.m2_dispatch.specs.m2_shared.Throttle.{SeenThrottle}
+use Rattle.m2_dispatch.specs.m2_shared.declared.throttles.Throttles.{Throttles}
 use Rattle.m2_edge.specs.Clock.{IsNextMoment}
 use Rattle.m2_links_go_on.specs.ClusterTold.{OneByOne}
 use Rattle.m2_mailbox.specs.Passes.{IsPutPassOf, WasFull, parts_of, puts_of}
@@ -27,23 +29,23 @@ use Rattle.m2_node.proofs.Way.{works_all}
 
 -- ---- a worker
 
-same_but : (old new : WorkerNow) (w : WatchNow) → new.numbers ≡ old.numbers → new.throttle ≡ old.throttle → new.started ≡ old.started → new.watch ≡ w →
+same_but : (old new : WorkerNow) (w : WatchNow) → new.numbers ≡ old.numbers → new.throttles ≡ old.throttles → new.started ≡ old.started → new.watch ≡ w →
     new ≡ record old { center = new.center; moment = new.moment; watch = w }
-same_but old new w numbers throttle started watch =
+same_but old new w numbers throttles started watch =
     ap {A = SeenNumbers} (λ n. record new { numbers = n }) numbers
-    ∙ ap {A = SeenThrottle} (λ t. record new { numbers = old.numbers; throttle = t }) throttle
-    ∙ ap {A = Bool} (λ b. record new { numbers = old.numbers; throttle = old.throttle; started = b }) started
+    ∙ ap {A = Throttles} (λ t. record new { numbers = old.numbers; throttles = t }) throttles
+    ∙ ap {A = Bool} (λ b. record new { numbers = old.numbers; throttles = old.throttles; started = b }) started
     ∙ ap {A = WatchNow} (λ v. record old { center = new.center; moment = new.moment; watch = v }) watch
 
 -- it was told to go on, and then took a turn
 pub turned : (E : Type 0) (may_give : ℕ → Type 0) (old mid new : WorkerNow) (now : ℕ) → mid ≡ record old { watch = told true old.watch } → IsNextMoment may_give old.moment now →
-    new.moment ≡ now → new.started ≡ mid.started → new.numbers ≡ mid.numbers → new.throttle ≡ mid.throttle → new.watch ≡ mid.watch →
-    StepsSo E now mid.numbers mid.throttle mid.center new.center → TurnsOnce E may_give old new
-turned E may_give old mid new now asked next moment started numbers throttle watch steps = record {
+    new.moment ≡ now → new.started ≡ mid.started → new.numbers ≡ mid.numbers → new.throttles ≡ mid.throttles → new.watch ≡ mid.watch →
+    StepsSo E now mid.numbers mid.throttles mid.center new.center → TurnsOnce E may_give old new
+turned E may_give old mid new now asked next moment started numbers throttles watch steps = record {
   moment = subst (IsNextMoment may_give old.moment) (sym moment) next;
-  steps = subst (λ (m : ℕ). StepsSo E m old.numbers old.throttle old.center new.center) (sym moment)
-      (subst (λ (w : WorkerNow). StepsSo E now w.numbers w.throttle w.center new.center) asked steps);
-  same = same_but old new (told true old.watch) (numbers ∙ ap (λ (w : WorkerNow). w.numbers) asked) (throttle ∙ ap (λ (w : WorkerNow). w.throttle) asked)
+  steps = subst (λ (m : ℕ). StepsSo E m old.numbers old.throttles old.center new.center) (sym moment)
+      (subst (λ (w : WorkerNow). StepsSo E now w.numbers w.throttles w.center new.center) asked steps);
+  same = same_but old new (told true old.watch) (numbers ∙ ap (λ (w : WorkerNow). w.numbers) asked) (throttles ∙ ap (λ (w : WorkerNow). w.throttles) asked)
       (started ∙ ap (λ (w : WorkerNow). w.started) asked) (watch ∙ ap (λ (w : WorkerNow). w.watch) asked);
 }
 
@@ -55,18 +57,29 @@ waited old mid new asked same polls = record {
 }
 
 -- either way it shares what it did
-pub kept_throttle : (E : Type 0) (may_give : ℕ → Type 0) (b : Bool) (old new : WorkerNow) → OnTrue b (TurnsOnce E may_give old new) → OnFalse b (Stops old new) → new.throttle ≡ old.throttle
-kept_throttle E may_give true old new turns stops = ap (λ (w : WorkerNow). w.throttle) turns.same
-kept_throttle E may_give false old new turns stops = ap (λ (w : WorkerNow). w.throttle) stops
+pub kept_throttles : (E : Type 0) (may_give : ℕ → Type 0) (b : Bool) (old new : WorkerNow) → OnTrue b (TurnsOnce E may_give old new) → OnFalse b (Stops old new) → new.throttles ≡ old.throttles
+kept_throttles E may_give true old new turns stops = ap (λ (w : WorkerNow). w.throttles) turns.same
+kept_throttles E may_give false old new turns stops = ap (λ (w : WorkerNow). w.throttles) stops
+
+-- and so it does where it waits
+pub kept_waiting : (b : Bool) (old new : WorkerNow) → OnTrue b (WaitsOnce old new) → OnFalse b (Stops old new) → new.throttles ≡ old.throttles
+kept_waiting true old new waits stops = ap (λ (w : WorkerNow). w.throttles) waits.same
+kept_waiting false old new waits stops = ap (λ (w : WorkerNow). w.throttles) stops
+
+-- what waits behind a turn was granted by the same throttles as what waited before
+pub owned_behind : (t u : Throttles) (old new : List Logged) (into behind : List Parcel) → u ≡ t → HandsOn heard_by (places t) old new into behind → AllOwned (places t) into → AllOwned (places u) behind
+owned_behind t u old new into behind same on owned =
+    subst (λ (v : Throttles). AllOwned (places v) behind) (sym same)
+    (subst (AllOwned (places t)) (sym on.last) (all_append (IsOwned (places t)) into on.more owned on.owned))
 
 -- ---- a worker with its mail
 
 -- what it hands on in a turn waits for the mail
-pub sends_on : (mail : Mail) (place : Place) (old new : SenderNow) → new.put ≡ old.put → new.worker.throttle ≡ old.worker.throttle →
-    HandsOn heard_by place old.worker.center.queued.inner new.worker.center.queued.inner old.waiting new.waiting → IsSending mail old → IsSending mail new
-sends_on mail place old new put throttle on s = record {
-  owner = s.owner ∙ ap (λ (t : SeenThrottle). t.place) (sym throttle);
-  shared = subst (λ (t : SeenThrottle). IsShared t.place) (sym throttle) s.shared;
+pub sends_on : (mail : Mail) (at : Places) (old new : SenderNow) → new.put ≡ old.put → new.worker.throttles ≡ old.worker.throttles →
+    HandsOn heard_by at old.worker.center.queued.inner new.worker.center.queued.inner old.waiting new.waiting → IsSending mail old → IsSending mail new
+sends_on mail at old new put throttles on s = record {
+  owner = s.owner ∙ sym throttles;
+  shared = subst AreShared (sym throttles) s.shared;
   ours = subst (λ (p : PutPass Parcel Ids). IsPutPassOf mail p) (sym put) s.ours;
   whole = ap (λ (p : PutPass Parcel Ids). parts_of p) put ∙ s.whole;
   room = s.room;
@@ -163,7 +176,7 @@ pub serves_asked : (mails : List Mail) (old mid : ServingNow) (w : WatchNow) →
 serves_asked mails old mid w asked serves = subst (IsServing mails) (sym asked) (record { ours = serves.ours; merged = serves.merged })
 
 pub same_asked : (old mid : ServingNow) (w : WatchNow) → mid ≡ record old { watch = w } → Serves old mid
-same_asked old mid w asked = subst (Serves old) (sym asked) (record { place = refl; count = refl; first = refl; started = refl })
+same_asked old mid w asked = subst (Serves old) (sym asked) (record { throttles = refl; count = refl; first = refl; started = refl })
 
 -- it was told to go on, and then looked into each mail of its node
 pub looked_once : (mails : List Mail) (old mid new : ServingNow) → mid ≡ record old { watch = told true old.watch } → new.watch ≡ mid.watch → (any : Bool) × LooksIntoAll mails any mid new →

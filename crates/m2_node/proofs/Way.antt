@@ -33,8 +33,8 @@ goes_then may_give a b c started x y z g h = record {
 
 pub turns_go_on : (E C : Type 0) (may_give : C → ℕ → Type 0) → TurnsStayOnCourse (List Logged) E C may_give → TurnGrows (List Logged) E → ComingStays →
     TurnsStayLogged (List Logged) E → TurnsStayOfPeers (List Logged) E → TurnsGoOn E C may_give
-turns_go_on E C may_give on_course grows coming logged of_peers clock from now numbers throttle old new t given later =
-    let m = means_at now numbers throttle in
+turns_go_on E C may_give on_course grows coming logged of_peers clock from now numbers throttles old new t given later =
+    let m = means_at now numbers throttles in
     let turn = t.turns in
     record {
       way = λ (made : NodeMade) (w : IsUnderWay (may_give clock) from made old). record {
@@ -72,8 +72,8 @@ waiting_goes_on C may_give on_course clock from now started c given later = reco
 }
 
 pub steps_go_on : (E C : Type 0) (may_give : C → ℕ → Type 0) → TurnsGoOn E C may_give → PollsGoOn C may_give → StepsGoOn E C may_give
-steps_go_on E C may_give turns polls clock from now numbers throttle old new s given later =
-    let turned = turns clock from now numbers throttle old s.mid s.turns given later in
+steps_go_on E C may_give turns polls clock from now numbers throttles old new s given later =
+    let turned = turns clock from now numbers throttles old s.mid s.turns given later in
     elim s.waits [
       | inl same ↦ subst (λ (c : CenterNow (List Logged)). GoesOn (may_give clock) from now true old c) (sym same) turned
       | inr polled ↦ goes_then (may_give clock) from now now true old s.mid new turned (polls clock now s.mid new polled)
@@ -84,7 +84,7 @@ steps_go_on E C may_give turns polls clock from now numbers throttle old new s g
 pub works_not : (may_give : ℕ → Type 0) (w : WorkerNow) → Works may_give w w
 works_not may_give w = record {
   numbers = refl;
-  throttle = refl;
+  throttles = refl;
   started = refl;
   later = le_refl w.moment;
   given = λ g. g;
@@ -94,7 +94,7 @@ works_not may_give w = record {
 pub works_then : (may_give : ℕ → Type 0) (a b c : WorkerNow) → Works may_give a b → Works may_give b c → Works may_give a c
 works_then may_give a b c f g = record {
   numbers = g.numbers ∙ f.numbers;
-  throttle = g.throttle ∙ f.throttle;
+  throttles = g.throttles ∙ f.throttles;
   started = g.started ∙ f.started;
   later = le_trans f.later g.later;
   given = λ given. g.given (f.given given);
@@ -130,13 +130,13 @@ works_turning E C may_give steps clock old new on t =
     let given = next_given (may_give clock) old.moment new.moment t.moment in
     record {
       numbers = ap (λ (w : WorkerNow). w.numbers) t.same;
-      throttle = ap (λ (w : WorkerNow). w.throttle) t.same;
+      throttles = ap (λ (w : WorkerNow). w.throttles) t.same;
       started = ap (λ (w : WorkerNow). w.started) t.same;
       later = later;
       given = given;
       goes = λ g.
           subst (λ (b : Bool). GoesOn (may_give clock) old.moment new.moment b old.center new.center) (sym on)
-          (steps clock old.moment new.moment old.numbers old.throttle old.center new.center t.steps (given g) later);
+          (steps clock old.moment new.moment old.numbers old.throttles old.center new.center t.steps (given g) later);
     }
 
 -- or its thread waits
@@ -145,7 +145,7 @@ works_waiting C may_give polls clock old new on w =
     let moment : new.moment ≡ old.moment = ap (λ (v : WorkerNow). v.moment) w.same in
     record {
       numbers = ap (λ (v : WorkerNow). v.numbers) w.same;
-      throttle = ap (λ (v : WorkerNow). v.throttle) w.same;
+      throttles = ap (λ (v : WorkerNow). v.throttles) w.same;
       started = ap (λ (v : WorkerNow). v.started) w.same;
       later = subst (λ (m : ℕ). old.moment ≤ m) (sym moment) (le_refl old.moment);
       given = λ g. subst (may_give clock) (sym moment) g;
@@ -159,7 +159,7 @@ works_waiting C may_give polls clock old new on w =
 works_stopping : (may_give : ℕ → Type 0) (old new : WorkerNow) → Stops old new → Works may_give old new
 works_stopping may_give old new stops = subst (λ (w : WorkerNow). Works may_give old w) (sym stops) (record {
   numbers = refl;
-  throttle = refl;
+  throttles = refl;
   started = refl;
   later = le_refl old.moment;
   given = λ g. g;

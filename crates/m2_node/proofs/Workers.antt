@@ -10,7 +10,7 @@ use Rattle.m2_bytes.proofs.m2_lemmas.Lists.{all_last}
 use Rattle.m2_script.specs.m2_center.Center.{CenterNow}
 use Rattle.m2_dispatch.specs.declared.logged.Logged.{Logged}
 use Rattle.m2_dispatch.specs.m2_shared.Numbers.{SeenNumbers}
-use Rattle.m2_dispatch.specs.m2_shared.Throttle.{SeenThrottle}
+use Rattle.m2_dispatch.specs.m2_shared.declared.throttles.Throttles.{Throttles}
 use Rattle.m2_links_go_on.specs.ClusterTold.{OneByOne}
 use Rattle.m2_scenario.specs.declared.node.Node.{Node}
 use Rattle.m2_node.specs.Nodes.{IsServedBy, RunNodeNow}
@@ -93,28 +93,28 @@ all_joined nodes shares ws k all whole behind so_far =
 pub record AreJoined (s : ShareNow) (left : ℕ) (centers : List (CenterNow (List Logged))) (ws all others : List WorkerNow) : Type 0 where
   pub so_far : centers ++ map center_of (take left ws) ≡ map center_of all
   pub behind : drop left ws ≡ others
-  pub served : AllByRecursion (IsServedBy s.numbers s.throttle) centers
+  pub served : AllByRecursion (IsServedBy s.numbers s.throttles) centers
   pub numbers : AllByRecursion (λ (w : WorkerNow). w.numbers ≡ s.numbers) (take left ws)
-  pub throttle : AllByRecursion (λ (w : WorkerNow). w.throttle ≡ s.throttle) (take left ws)
+  pub throttles : AllByRecursion (λ (w : WorkerNow). w.throttles ≡ s.throttles) (take left ws)
 
 pub none_joined : (x : Node) (s : ShareNow) (centers : List (CenterNow (List Logged))) (ws : List WorkerNow) → IsGroup x s (take x.centers ws) → centers ≡ [] →
     AreJoined s x.centers centers ws (take x.centers ws) (drop x.centers ws)
 none_joined x s centers ws g none = record {
   so_far = ap (λ (cs : List (CenterNow (List Logged))). cs ++ map center_of (take x.centers ws)) none;
   behind = refl;
-  served = subst (AllByRecursion (IsServedBy s.numbers s.throttle)) (sym none) tt;
+  served = subst (AllByRecursion (IsServedBy s.numbers s.throttles)) (sym none) tt;
   numbers = g.numbers;
-  throttle = g.throttle;
+  throttles = g.throttles;
 }
 
 -- one center more, of the next worker
 pub one_more_joined : (s : ShareNow) (left : ℕ) (centers new : List (CenterNow (List Logged))) (c : CenterNow (List Logged)) (ws rest all others : List WorkerNow) (w : WorkerNow) →
-    AreJoined s (suc left) centers ws all others → ws ≡ w ∷ rest → new ≡ centers ++ c ∷ [] → c ≡ w.center → IsServedBy w.numbers w.throttle w.center → AreJoined s left new rest all others
+    AreJoined s (suc left) centers ws all others → ws ≡ w ∷ rest → new ≡ centers ++ c ∷ [] → c ≡ w.center → IsServedBy w.numbers w.throttles w.center → AreJoined s left new rest all others
 one_more_joined s left centers new c ws rest all others w j first pushed same served =
     let i : AreJoined s (suc left) centers (w ∷ rest) all others = subst (λ (vs : List WorkerNow). AreJoined s (suc left) centers vs all others) first j in
-    let its : IsServedBy s.numbers s.throttle c =
-    subst (IsServedBy s.numbers s.throttle) (sym same)
-    (subst (λ (t : SeenThrottle). IsServedBy s.numbers t w.center) i.throttle.0 (subst (λ (n : SeenNumbers). IsServedBy n w.throttle w.center) i.numbers.0 served)) in
+    let its : IsServedBy s.numbers s.throttles c =
+    subst (IsServedBy s.numbers s.throttles) (sym same)
+    (subst (λ (t : Throttles). IsServedBy s.numbers t w.center) i.throttles.0 (subst (λ (n : SeenNumbers). IsServedBy n w.throttles w.center) i.numbers.0 served)) in
     record {
       so_far =
           ap (λ (cs : List (CenterNow (List Logged))). cs ++ map center_of (take left rest)) pushed
@@ -122,14 +122,14 @@ one_more_joined s left centers new c ws rest all others w j first pushed same se
           ∙ ap (λ (d : CenterNow (List Logged)). centers ++ d ∷ map center_of (take left rest)) same
           ∙ i.so_far;
       behind = i.behind;
-      served = subst (AllByRecursion (IsServedBy s.numbers s.throttle)) (sym pushed) (all_last (IsServedBy s.numbers s.throttle) centers c i.served its);
+      served = subst (AllByRecursion (IsServedBy s.numbers s.throttles)) (sym pushed) (all_last (IsServedBy s.numbers s.throttles) centers c i.served its);
       numbers = i.numbers.1;
-      throttle = i.throttle.1;
+      throttles = i.throttles.1;
     }
 
 -- the same, by how many of the node's workers came before it
 pub next_joined : (s : ShareNow) (most n : ℕ) (centers new : List (CenterNow (List Logged))) (c : CenterNow (List Logged)) (ws rest all others : List WorkerNow) (w : WorkerNow) → n < most →
-    AreJoined s (most - n) centers ws all others → ws ≡ w ∷ rest → new ≡ centers ++ c ∷ [] → c ≡ w.center → IsServedBy w.numbers w.throttle w.center →
+    AreJoined s (most - n) centers ws all others → ws ≡ w ∷ rest → new ≡ centers ++ c ∷ [] → c ≡ w.center → IsServedBy w.numbers w.throttles w.center →
     AreJoined s (most - (n + 1)) new rest all others
 next_joined s most n centers new c ws rest all others w less j first pushed same served =
     let next : most - n ≡ suc (most - (n + 1)) = omega (arith, less) in
@@ -137,7 +137,7 @@ next_joined s most n centers new c ws rest all others w less j first pushed same
 
 -- the node of these centers
 abbrev joined_by : ShareNow → List (CenterNow (List Logged)) → RunNodeNow
-joined_by s centers = record { centers = centers; numbers = s.numbers; throttle = s.throttle }
+joined_by s centers = record { centers = centers; numbers = s.numbers; throttles = s.throttles }
 
 -- all of them
 pub centers_joined : (s : ShareNow) (most n : ℕ) (centers : List (CenterNow (List Logged))) (ws all others : List WorkerNow) → most ≤ n → AreJoined s (most - n) centers ws all others →

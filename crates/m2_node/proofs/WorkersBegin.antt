@@ -131,7 +131,7 @@ module _ (nodes : List Node) (links : List Link) (steps : List StepTowards) (k w
     pub count : length behind ≡ j
     pub started : AllByRecursion (λ (w : WorkerNow). w.started ≡ x.started) behind
     pub numbers : AllByRecursion (λ (w : WorkerNow). w.numbers ≡ s.numbers) behind
-    pub throttle : AllByRecursion (λ (w : WorkerNow). w.throttle ≡ s.throttle) behind
+    pub throttles : AllByRecursion (λ (w : WorkerNow). w.throttles ≡ s.throttles) behind
     pub moments : AllByRecursion (λ (w : WorkerNow). w.moment ≡ moment) behind
     pub beginning : AreBeginningAt nodes links steps k 0 word x behind
 
@@ -142,20 +142,20 @@ module _ (nodes : List Node) (links : List Link) (steps : List StepTowards) (k w
     count = refl;
     started = tt;
     numbers = tt;
-    throttle = tt;
+    throttles = tt;
     moments = tt;
     beginning = λ i w e. absurd (none-some w e);
   }
 
-  pub one_added_more : (j : ℕ) (w : WorkerNow) (old mid new : List WorkerNow) → AreAddedSoFar j old mid → new ≡ mid ++ w ∷ [] → w.started ≡ x.started → w.numbers ≡ s.numbers → w.throttle ≡ s.throttle →
+  pub one_added_more : (j : ℕ) (w : WorkerNow) (old mid new : List WorkerNow) → AreAddedSoFar j old mid → new ≡ mid ++ w ∷ [] → w.started ≡ x.started → w.numbers ≡ s.numbers → w.throttles ≡ s.throttles →
       w.moment ≡ moment → IsBeginning nodes links steps k j word x w.center → AreAddedSoFar (j + 1) old new
-  one_added_more j w old mid new far e started numbers throttle now is = record {
+  one_added_more j w old mid new far e started numbers throttles now is = record {
     behind = far.behind ++ w ∷ [];
     split = e ∙ ap (λ vs. vs ++ w ∷ []) far.split ∙ append_assoc old far.behind (w ∷ []);
     count = length-append far.behind (w ∷ []) ∙ ap (λ (n : ℕ). n + 1) far.count;
     started = all_last (λ (v : WorkerNow). v.started ≡ x.started) far.behind w far.started started;
     numbers = all_last (λ (v : WorkerNow). v.numbers ≡ s.numbers) far.behind w far.numbers numbers;
-    throttle = all_last (λ (v : WorkerNow). v.throttle ≡ s.throttle) far.behind w far.throttle throttle;
+    throttles = all_last (λ (v : WorkerNow). v.throttles ≡ s.throttles) far.behind w far.throttles throttles;
     moments = all_last (λ (v : WorkerNow). v.moment ≡ moment) far.behind w far.moments now;
     beginning = λ i v f. go i v (one_of far.behind w i v f);
   }
@@ -170,7 +170,7 @@ module _ (nodes : List Node) (links : List Link) (steps : List StepTowards) (k w
   all_added j old new all far = record {
     behind = far.behind;
     split = far.split;
-    group = record { count = far.count ∙ all; started = far.started; numbers = far.numbers; throttle = far.throttle };
+    group = record { count = far.count ∙ all; started = far.started; numbers = far.numbers; throttles = far.throttles };
     moments = far.moments;
     word = word;
     beginning = far.beginning;

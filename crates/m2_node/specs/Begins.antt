@@ -18,7 +18,7 @@ use Rattle.m2_handover.specs.m2_mailbox.declared.passes.PutPass.{PutPass}
 use Rattle.m2_trail.specs.declared.home.HomeOf.{HomeOf}
 use Rattle.m2_dispatch.specs.declared.logged.Logged.{Logged}
 use Rattle.m2_dispatch.specs.m2_shared.Numbers.{SeenNumberPass}
-use Rattle.m2_dispatch.specs.m2_shared.Throttle.{SeenTakePass}
+use Rattle.m2_dispatch.specs.m2_shared.declared.throttles.TakePasses.{TakePasses}
 use Rattle.m2_fabric.specs.Fabric.{IsUnused, SeenFabric}
 use Rattle.m2_fabric.specs.Port.{SeenPort}
 use Rattle.m2_script.specs.m2_record.RecordNow.{RecordNow}
@@ -136,7 +136,7 @@ pub record AreNewAt (at : Addr) (centers : ℕ) (ports : List SeenPort) : Type 0
 pub record IsBeginning (nodes : List Node) (links : List Link) (steps : List StepTowards) (k j word : ℕ) (x : Node) (c : CenterNow (List Logged)) : Type 0 where
   pub port : SeenPort
   pub records : List RecordNow
-  pub bytes : SeenTakePass
+  pub bytes : TakePasses
   pub numbers : SeenNumberPass
   pub center : c ≡ new_center x.entity port records [] [] bytes numbers
   pub at : port.at ≡ x.at

@@ -8,10 +8,10 @@ use Rattle.m2_dispatch.specs.declared.letter.Letter.{Letter}
 use Rattle.m2_dispatch.specs.declared.logged.Logged.{Logged}
 use Rattle.m2_dispatch.specs.declared.parcel.Parcel.{Parcel}
 use Rattle.m2_dispatch.specs.declared.parcel.Parcel.TheVariants as parcel
-use Rattle.m2_dispatch.specs.m2_shared.Changes.{IsReturn}
-use Rattle.m2_dispatch.specs.m2_shared.Place.{Place}
-use Rattle.m2_dispatch.specs.m2_shared.declared.held.Change.{Change}
+use Rattle.m2_dispatch.specs.m2_shared.Gates.{GivesPeer}
 use Rattle.m2_dispatch.specs.m2_shared.declared.ids.Ids.{Ids}
+use Rattle.m2_dispatch.specs.m2_shared.declared.throttles.TakePasses.{TakePasses}
+use Rattle.m2_dispatch.specs.m2_shared.declared.throttles.Throttles.{Throttles}
 use Rattle.m2_mailbox.specs.Merge.{IsMerge}
 use Rattle.m2_mailbox.specs.Passes.{IsGetPassOf, IsPutPassOf, capacity_of, looks_of, next_look, owner_of, parts_of, puts_of, taken_of}
 use Rattle.m2_mailbox.specs.Views.{all_parts}
@@ -23,23 +23,24 @@ use Rattle.m2_node.specs.Watching.{RunsSo, WatchNow, told}
 
 -- ---- a dispatcher
 
--- where the word of the node's throttle lies, what the dispatcher was called with, and whether memory ran out
+-- the throttles of its node, what the dispatcher was called with, and whether memory ran out
 pub record DispatcherNow : Type 0 where
-  pub place : Place
+  pub throttles : Throttles
   pub log : List Logged
   pub lost : Bool
 
 -- Where memory has lasted, it was called with what these parcels are dispatched as, in order, and with nothing else.
 pub record HasDispatched (parcels : List Parcel) (old new : DispatcherNow) : Type 0 where
-  pub place : new.place ≡ old.place
+  pub throttles : new.throttles ≡ old.throttles
   pub lasted : new.lost ≡ false → old.lost ≡ false
   pub heard : new.lost ≡ false → heard_by new.log ≡ heard_by old.log ++ heard_for_all parcels
 
--- what was granted for a parcel comes back to a word that threads share: for a letter the word falls by its bytes, in one step
-abbrev pub Returns : Parcel → (before after : List Change) → Type 0
-Returns (parcel.Letter l) before after = IsReturn l.grant.n before after
-Returns (parcel.Discard peer) before after = after ≡ before
-Returns (parcel.RemoteReset peer) before after = after ≡ before
+-- What was granted for a parcel comes back to these throttles: for a letter each word that threads share falls, in one step, by what was
+-- granted for the letter at its stage, and no other word moves.
+abbrev pub Returns : Throttles → Parcel → (before after : TakePasses) → Type 0
+Returns t (parcel.Letter l) before after = GivesPeer t before after l.grants
+Returns t (parcel.Discard peer) before after = after ≡ before
+Returns t (parcel.RemoteReset peer) before after = after ≡ before
 
 -- the first letters that wait were dispatched, in order, and nothing else
 pub record DispatchesFirst (old new : Queued (List Logged)) : Type 0 where
@@ -52,9 +53,13 @@ pub record DispatchesFirst (old new : Queued (List Logged)) : Type 0 where
 abbrev pub Mail : Type 0
 Mail = Inbox Parcel Ids
 
--- an empty mail for what the throttle at this place has granted for, with room for so many parcels, and all rights to it
-pub record IsNewMail (place : Place) (mail : Mail) (put : PutPass Parcel Ids) (get : GetPass Parcel Ids) : Type 0 where
-  pub owner : (owner_of mail).place ≡ place
+-- those that have granted for what it holds
+abbrev pub throttles_of : Mail → Throttles
+throttles_of mail = (owner_of mail).of
+
+-- an empty mail for what these throttles have granted for, with room for so many parcels, and all rights to it
+pub record IsNewMail (throttles : Throttles) (mail : Mail) (put : PutPass Parcel Ids) (get : GetPass Parcel Ids) : Type 0 where
+  pub owner : throttles_of mail ≡ throttles
   pub puts : IsPutPassOf mail put
   pub gets : IsGetPassOf mail get
   pub whole : parts_of put ≡ all_parts
@@ -86,12 +91,12 @@ taken_by get = heard_for_all (taken_of get)
 -- of them, as one list: nothing is left out and nothing comes twice, and what was taken out of each stands in it in order.
 pub record IsServing (mails : List Mail) (s : ServingNow) : Type 0 where
   pub ours : (j : ℕ) (m : Mail) (g : GetPass Parcel Ids) → slice_get mails (s.first + j) ≡ Some m → slice_get s.gets j ≡ Some g →
-      IsGetPassOf m g × ((owner_of m).place ≡ s.dispatcher.place)
+      IsGetPassOf m g × (throttles_of m ≡ s.dispatcher.throttles)
   pub merged : s.dispatcher.lost ≡ false → IsMerge Heard (map taken_by s.gets) (heard_by s.dispatcher.log)
 
 -- it has taken more, by the same rights
 pub record Serves (old new : ServingNow) : Type 0 where
-  pub place : new.dispatcher.place ≡ old.dispatcher.place
+  pub throttles : new.dispatcher.throttles ≡ old.dispatcher.throttles
   pub count : length new.gets ≡ length old.gets
   pub first : new.first ≡ old.first
   pub started : new.started ≡ old.started

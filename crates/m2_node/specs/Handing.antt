@@ -6,15 +6,16 @@ use Rattle.m2_dispatch.specs.Heard.{Heard, heard_by}
 use Rattle.m2_dispatch.specs.Parcel.{heard_for_all}
 use Rattle.m2_dispatch.specs.declared.logged.Logged.{Logged}
 use Rattle.m2_dispatch.specs.declared.parcel.Parcel.{Parcel}
-use Rattle.m2_dispatch.specs.m2_shared.Place.{IsShared, Place}
+use Rattle.m2_dispatch.specs.m2_shared.Gates.{AreShared}
+use Rattle.m2_dispatch.specs.m2_shared.declared.throttles.Throttles.{Throttles}
 use Rattle.m2_dispatch.specs.m2_shared.declared.ids.Ids.{Ids}
 use Rattle.m2_mailbox.specs.Merge.{IsMerge}
-use Rattle.m2_mailbox.specs.Passes.{IsPutPassOf, capacity_of, owner_of, parts_of, puts_of}
+use Rattle.m2_mailbox.specs.Passes.{IsPutPassOf, capacity_of, parts_of, puts_of}
 use Rattle.m2_mailbox.specs.Views.{all_parts}
 use Rattle.m2_mailbox.specs.declared.inbox.TheConstants.{MOST_PARCELS}
 use Rattle.m2_mailbox.specs.declared.passes.PutPass.{PutPass}
 use Rattle.m2_script.specs.m2_center.Center.{CenterNow}
-use Rattle.m2_node.specs.Dispatching.{DispatcherNow, Mail}
+use Rattle.m2_node.specs.Dispatching.{DispatcherNow, Mail, throttles_of}
 use Rattle.m2_node.specs.Nodes.{RunNodeNow, fast_in, queued_in}
 use Rattle.m2_node.specs.Watching.{RunsSo}
 use Rattle.m2_node.specs.Working.{Stops, TurnsOnce, WaitsOnce, WorkerNow}
@@ -30,10 +31,10 @@ handed_by c = heard_by c.queued.inner
 abbrev pub AreHanded : List (CenterNow (List Logged)) → List Heard → Type 0
 AreHanded centers heard = IsMerge Heard (map handed_by centers) heard
 
--- a node's dispatcher, by the throttle at this place: it was called with just that, where memory has lasted
-pub record IsDispatched (place : Place) (centers : List (CenterNow (List Logged))) (d : DispatcherNow) : Type 0 where
-  pub at : d.place ≡ place
-  pub shared : IsShared place
+-- a node's dispatcher, by these throttles, which threads share: it was called with just that, where memory has lasted
+pub record IsDispatched (throttles : Throttles) (centers : List (CenterNow (List Logged))) (d : DispatcherNow) : Type 0 where
+  pub at : d.throttles ≡ throttles
+  pub shared : AreShared throttles
   pub handed : d.lost ≡ false → AreHanded centers (heard_by d.log)
 
 -- what its dispatcher was called with, as it is kept of a node whose threads have ended
@@ -81,10 +82,10 @@ abbrev pub worker_of : SenderNow → WorkerNow
 worker_of s = s.worker
 
 -- What it has put and then what waits is what its center has handed on, in order. It is the only one who puts into this mail, which is for
--- what the node's throttle has granted for, and has room for so many parcels.
+-- what the node's throttles have granted for, and has room for so many parcels.
 pub record IsSending (mail : Mail) (s : SenderNow) : Type 0 where
-  pub owner : (owner_of mail).place ≡ s.worker.throttle.place
-  pub shared : IsShared s.worker.throttle.place
+  pub owner : throttles_of mail ≡ s.worker.throttles
+  pub shared : AreShared s.worker.throttles
   pub ours : IsPutPassOf mail s.put
   pub whole : parts_of s.put ≡ all_parts
   pub room : capacity_of mail ≡ MOST_PARCELS

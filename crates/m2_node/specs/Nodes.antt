@@ -8,7 +8,8 @@ use Rattle.m2_script.specs.m2_center.Reaching.{ends_in}
 use Rattle.m2_script.specs.m2_cluster.Node.{NodeNow}
 use Rattle.m2_dispatch.specs.declared.logged.Logged.{Logged}
 use Rattle.m2_dispatch.specs.m2_shared.Numbers.{SeenNumbers}
-use Rattle.m2_dispatch.specs.m2_shared.Throttle.{SeenThrottle}
+use Rattle.m2_dispatch.specs.m2_shared.Gates.{pass_places, places}
+use Rattle.m2_dispatch.specs.m2_shared.declared.throttles.Throttles.{Throttles}
 use Rattle.m2_fabric.specs.End.{SeenEnd}
 use Rattle.m2_fabric.specs.declared.socket.SocketId.{SocketId}
 use Rattle.m2_script.specs.m2_record.RecordNow.{RecordNow}
@@ -18,20 +19,20 @@ use Rattle.m2_node.specs.Ports.{off_port}
 
 -- ---- a node
 
--- the centers of its event threads, in order; and what they share: the counter of global numbers, and the throttle
+-- the centers of its event threads, in order; and what they share: the counter of global numbers, and the throttles
 pub record RunNodeNow : Type 0 where
   pub centers : List (CenterNow (List Logged))
   pub numbers : SeenNumbers
-  pub throttle : SeenThrottle
+  pub throttles : Throttles
 
 -- the passes of a center are to these
-pub record IsServedBy (numbers : SeenNumbers) (throttle : SeenThrottle) (c : CenterNow (List Logged)) : Type 0 where
+pub record IsServedBy (numbers : SeenNumbers) (throttles : Throttles) (c : CenterNow (List Logged)) : Type 0 where
   pub numbers_place : c.numbers.place ≡ numbers.place
-  pub throttle_place : c.bytes.place ≡ throttle.place
+  pub throttles_places : pass_places c.bytes ≡ places throttles
 
 -- those of its centers are to what it shares
 abbrev pub IsRunNode : RunNodeNow → Type 0
-IsRunNode n = AllByRecursion (IsServedBy n.numbers n.throttle) n.centers
+IsRunNode n = AllByRecursion (IsServedBy n.numbers n.throttles) n.centers
 
 -- ---- of all its centers, one after another
 
@@ -63,7 +64,7 @@ abbrev pub as_one : RunNodeNow → NodeNow (List Logged)
 as_one n = record {
   center = new_center 0 (off_port nowhere) (records_in n) (fast_in n) (queued_in n) none_granted none_drawn;
   numbers = n.numbers;
-  throttle = n.throttle;
+  throttles = n.throttles;
 }
 
 -- ---- what is kept of a node

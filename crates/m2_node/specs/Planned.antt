@@ -99,7 +99,7 @@ IsSendableStep s = CanBePlanned s.step
 
 -- as this one begins, which `sim` has, one of a run does
 abbrev pub begun_as : RecordNow → RecordNow
-begun_as r = new_record (waiting r.core.facts) r.place
+begun_as r = new_record (waiting r.core.facts) r.place r.core.live.granted.peer
 
 -- the records of thread j of so many of the node at place k before anything is planned, but for room
 abbrev pub AreNewRecords : List Node → List Link → (k centers j word : ℕ) → List RecordNow → Type 0

@@ -4,13 +4,13 @@ use Rattle.std.specs.Prelude.{◌≡◌, ℕ, ◌+◌, false, List, [], ◌∷�
 use Rattle.std.specs.List.{AllByRecursion}
 use Rattle.m2_dispatch.specs.Heard.{Heard, heard_by}
 use Rattle.m2_dispatch.specs.declared.parcel.Parcel.{Parcel}
-use Rattle.m2_dispatch.specs.m2_shared.Place.{Place}
+use Rattle.m2_dispatch.specs.m2_shared.declared.throttles.Throttles.{Throttles}
 use Rattle.m2_dispatch.specs.m2_shared.declared.ids.Ids.{Ids}
 use Rattle.m2_mailbox.specs.Merge.{IsMerge}
-use Rattle.m2_mailbox.specs.Passes.{IsGetPassOf, owner_of}
+use Rattle.m2_mailbox.specs.Passes.{IsGetPassOf}
 use Rattle.m2_mailbox.specs.declared.passes.GetPass.{GetPass}
 use Rattle.m2_scenario.specs.declared.node.Node.{Node}
-use Rattle.m2_node.specs.Dispatching.{DispatcherNow, IsServing, Mail, ServingNow, taken_by}
+use Rattle.m2_node.specs.Dispatching.{DispatcherNow, IsServing, Mail, ServingNow, taken_by, throttles_of}
 use Rattle.m2_node.specs.Handing.{AreHanded, IsDispatched, IsSending, SenderNow, worker_of}
 use Rattle.m2_node.specs.Lists.{SideBySide}
 use Rattle.m2_node.specs.Sharing.{ShareNow}
@@ -27,7 +27,7 @@ pub record PostsNow : Type 0 where
 pub record IsServerOf (first : ℕ) (x : Node) (s : ShareNow) (v : ServingNow) : Type 0 where
   pub count : length v.gets ≡ x.centers
   pub first_is : v.first ≡ first
-  pub place : v.dispatcher.place ≡ s.throttle.place
+  pub throttles : v.dispatcher.throttles ≡ s.throttles
   pub started : v.started ≡ x.started
 
 -- those of these nodes, in order, from a number on
@@ -62,22 +62,22 @@ pub record AddsPosts (x : Node) (s : ShareNow) (workers : List WorkerNow) (old n
 
 -- A mail was closed out of which this was taken, and what its thread has handed on in all is dispatched, in order.
 pub record ClosesSender (got handed : List Heard) (old new : DispatcherNow) : Type 0 where
-  pub place : new.place ≡ old.place
+  pub throttles : new.throttles ≡ old.throttles
   pub lasted : new.lost ≡ false → old.lost ≡ false
   pub more : List Heard
   pub whole : handed ≡ got ++ more
   pub heard : new.lost ≡ false → heard_by new.log ≡ heard_by old.log ++ more
 
--- the first of these mails and threads are those to which these are the rights to take, of a dispatcher by the throttle at this place
-abbrev pub AreClosable : (place : Place) → List (GetPass Parcel Ids) → List Mail → List SenderNow → Type 0
-AreClosable place [] mails senders = Unit {0}
-AreClosable place (g ∷ gets) (m ∷ mails) (s ∷ senders) =
-    (IsGetPassOf m g × ((owner_of m).place ≡ place) × IsSending m s) × AreClosable place gets mails senders
-AreClosable place gets mails senders = ⊥
+-- the first of these mails and threads are those to which these are the rights to take, of a dispatcher by these throttles
+abbrev pub AreClosable : (throttles : Throttles) → List (GetPass Parcel Ids) → List Mail → List SenderNow → Type 0
+AreClosable throttles [] mails senders = Unit {0}
+AreClosable throttles (g ∷ gets) (m ∷ mails) (s ∷ senders) =
+    (IsGetPassOf m g × (throttles_of m ≡ throttles) × IsSending m s) × AreClosable throttles gets mails senders
+AreClosable throttles gets mails senders = ⊥
 
 -- where its dispatcher was called with what was taken out of each, and memory has lasted, it was called with all that they have handed on
 pub record ClosesAll (gets : List (GetPass Parcel Ids)) (senders : List SenderNow) (old new : DispatcherNow) : Type 0 where
-  pub place : new.place ≡ old.place
+  pub throttles : new.throttles ≡ old.throttles
   pub lasted : new.lost ≡ false
   pub handed : (old.lost ≡ false → IsMerge Heard (map taken_by gets) (heard_by old.log)) → AreHanded (map center_of (map worker_of senders)) (heard_by new.log)
 
@@ -85,5 +85,5 @@ pub record ClosesAll (gets : List (GetPass Parcel Ids)) (senders : List SenderNo
 abbrev pub AreDispatched : List Node → List ShareNow → List WorkerNow → List DispatcherNow → Type 0
 AreDispatched [] shares ws ds = ds ≡ []
 AreDispatched (x ∷ nodes) (s ∷ shares) ws (d ∷ ds) =
-    IsDispatched s.throttle.place (map center_of (take x.centers ws)) d × AreDispatched nodes shares (drop x.centers ws) ds
+    IsDispatched s.throttles (map center_of (take x.centers ws)) d × AreDispatched nodes shares (drop x.centers ws) ds
 AreDispatched nodes shares ws ds = ⊥

@@ -2,29 +2,31 @@
 use Rattle.std.specs.Prelude.{◌≡◌, ℕ, List, [], ◌∷◌, ◌++◌, length}
 use Rattle.std.specs.List.{AllByRecursion}
 use Rattle.m2_dispatch.specs.m2_shared.Numbers.{SeenNumberPass, SeenNumbers}
+use Rattle.m2_dispatch.specs.m2_shared.Gates.{ArePassesOf, AreShared, unused_by}
 use Rattle.m2_dispatch.specs.m2_shared.Place.{IsShared}
-use Rattle.m2_dispatch.specs.m2_shared.Throttle.{SeenTakePass, SeenThrottle}
+use Rattle.m2_dispatch.specs.m2_shared.declared.throttles.TakePasses.{TakePasses}
+use Rattle.m2_dispatch.specs.m2_shared.declared.throttles.Throttles.{Throttles}
 use Rattle.m2_node.specs.Lists.{SideBySide}
 
--- the counter of global numbers, and the throttle
+-- the counter of global numbers, and the throttles
 pub record ShareNow : Type 0 where
   pub numbers : SeenNumbers
-  pub throttle : SeenThrottle
+  pub throttles : Throttles
 
 -- the passes to them that each thread's are split off
 pub record FirstPassesNow : Type 0 where
   pub numbers : SeenNumberPass
-  pub throttle : SeenTakePass
+  pub throttles : TakePasses
 
--- both lie where threads share them
+-- all lie where threads share them
 pub record IsShare (s : ShareNow) : Type 0 where
   pub numbers : IsShared s.numbers.place
-  pub throttle : IsShared s.throttle.place
+  pub throttles : AreShared s.throttles
 
 -- they are to these, and nothing was drawn or granted by them
 pub record AreFirstOf (s : ShareNow) (p : FirstPassesNow) : Type 0 where
   pub numbers : p.numbers ≡ record { place = s.numbers.place; least = 0; drawn = [] }
-  pub throttle : p.throttle ≡ record { place = s.throttle.place; word = 0; changes = [] }
+  pub throttles : p.throttles ≡ unused_by s.throttles
 
 -- of each of so many nodes the threads share these, and these are the first passes to them
 pub record AreSharesOf (nodes : ℕ) (shares : List ShareNow) (passes : List FirstPassesNow) : Type 0 where
@@ -42,5 +44,5 @@ pub record AddsShare (shares : List ShareNow) (passes : List FirstPassesNow) (sh
   pub passes_are : passes_new ≡ passes ++ pass ∷ []
 
 -- of each node a right to give back, of the thread of its dispatcher
-abbrev pub AreRights : List ShareNow → List SeenTakePass → Type 0
-AreRights shares rights = SideBySide (λ (s : ShareNow) (r : SeenTakePass). r.place ≡ s.throttle.place) shares rights
+abbrev pub AreRights : List ShareNow → List TakePasses → Type 0
+AreRights shares rights = SideBySide (λ (s : ShareNow) (r : TakePasses). ArePassesOf s.throttles r) shares rights

@@ -10,7 +10,7 @@ use Rattle.m2_links_go_on.specs.Made.{IsBegun, NodeMade, SideMade}
 use Rattle.m2_dispatch.specs.Heard.{heard_by}
 use Rattle.m2_dispatch.specs.declared.logged.Logged.{Logged}
 use Rattle.m2_dispatch.specs.m2_shared.Numbers.{SeenNumbers}
-use Rattle.m2_dispatch.specs.m2_shared.Throttle.{SeenThrottle}
+use Rattle.m2_dispatch.specs.m2_shared.declared.throttles.Throttles.{Throttles}
 use Rattle.m2_fabric.specs.Fabric.{SeenFabric}
 use Rattle.m2_fabric.specs.Port.{with_poll}
 use Rattle.m2_links_go_on.specs.LeftLaws.{HaveCome}
@@ -37,9 +37,9 @@ pub record IsUnderWay (may_give : ℕ → Type 0) (moment : ℕ) (made : NodeMad
   pub peers : AreOfPeers heard_by c.records c.out c.queued
 
 -- It takes a turn at a moment, by what its node shares; its records are records before it and behind it.
-pub record TurnsSo (E : Type 0) (now : ℕ) (numbers : SeenNumbers) (throttle : SeenThrottle) (old new : CenterNow (List Logged)) : Type 0 where
+pub record TurnsSo (E : Type 0) (now : ℕ) (numbers : SeenNumbers) (throttles : Throttles) (old new : CenterNow (List Logged)) : Type 0 where
   pub answer : Answer
-  pub turns : TakesTurn E heard_by (means_at now numbers throttle) answer old new
+  pub turns : TakesTurn E heard_by (means_at now numbers throttles) answer old new
   pub before : AllByRecursion IsRecord old.records
   pub behind : AllByRecursion IsRecord new.records
 
@@ -48,9 +48,9 @@ abbrev pub PollsSo : CenterNow (List Logged) → CenterNow (List Logged) → Typ
 PollsSo old new = new ≡ record old { port = with_poll new.port.faults old.port }
 
 -- it takes a turn, and may wait at its port behind it
-pub record StepsSo (E : Type 0) (now : ℕ) (numbers : SeenNumbers) (throttle : SeenThrottle) (old new : CenterNow (List Logged)) : Type 0 where
+pub record StepsSo (E : Type 0) (now : ℕ) (numbers : SeenNumbers) (throttles : Throttles) (old new : CenterNow (List Logged)) : Type 0 where
   pub mid : CenterNow (List Logged)
-  pub turns : TurnsSo E now numbers throttle old mid
+  pub turns : TurnsSo E now numbers throttles old mid
   pub waits : (new ≡ mid) ⊎ PollsSo mid new
 
 -- It goes on from one moment to another: whatever it was made, it is under way where it was; and one that is off is as it was.
@@ -62,7 +62,7 @@ pub record GoesOn (may_give : ℕ → Type 0) (from to : ℕ) (started : Bool) (
 
 -- so does each of its centers, and what they share is the same
 pub record NodeTurnsSo (E : Type 0) (now : ℕ) (old new : RunNodeNow) : Type 0 where
-  pub each : OneByOne (TurnsSo E now old.numbers old.throttle) old.centers new.centers
+  pub each : OneByOne (TurnsSo E now old.numbers old.throttles) old.centers new.centers
   pub shared : new ≡ record old { centers = new.centers }
 
 pub record NodePollsSo (old new : RunNodeNow) : Type 0 where

@@ -4,7 +4,7 @@ use Rattle.std.specs.List.{AllByRecursion}
 use Rattle.m2_script.specs.m2_center.Center.{CenterNow}
 use Rattle.m2_dispatch.specs.declared.logged.Logged.{Logged}
 use Rattle.m2_dispatch.specs.m2_shared.Numbers.{SeenNumbers}
-use Rattle.m2_dispatch.specs.m2_shared.Throttle.{SeenThrottle}
+use Rattle.m2_dispatch.specs.m2_shared.declared.throttles.Throttles.{Throttles}
 use Rattle.m2_links_go_on.specs.ClusterTold.{OneByOne}
 use Rattle.m2_edge.specs.Clock.{IsNextMoment}
 use Rattle.m2_scenario.specs.declared.node.Node.{Node}
@@ -18,7 +18,7 @@ use Rattle.m2_node.specs.Way.{GoesOn, PollsSo, StepsSo}
 pub record WorkerNow : Type 0 where
   pub center : CenterNow (List Logged)
   pub numbers : SeenNumbers
-  pub throttle : SeenThrottle
+  pub throttles : Throttles
   pub started : Bool
   pub moment : ℕ
   pub watch : WatchNow
@@ -29,7 +29,7 @@ center_of w = w.center
 -- a worker whose moment was given goes on to one that is given too
 pub record Works (may_give : ℕ → Type 0) (old new : WorkerNow) : Type 0 where
   pub numbers : new.numbers ≡ old.numbers
-  pub throttle : new.throttle ≡ old.throttle
+  pub throttles : new.throttles ≡ old.throttles
   pub started : new.started ≡ old.started
   pub later : old.moment ≤ new.moment
   pub given : may_give old.moment → may_give new.moment
@@ -45,7 +45,7 @@ AllWork may_give old new = OneByOne (Works may_give) old new
 -- wait at the port.
 pub record TurnsOnce (E : Type 0) (may_give : ℕ → Type 0) (old new : WorkerNow) : Type 0 where
   pub moment : IsNextMoment may_give old.moment new.moment
-  pub steps : StepsSo E new.moment old.numbers old.throttle old.center new.center
+  pub steps : StepsSo E new.moment old.numbers old.throttles old.center new.center
   pub same : new ≡ record old { center = new.center; moment = new.moment; watch = told true old.watch }
 
 -- it was told to go on, and its thread waited at the port
@@ -65,7 +65,7 @@ Runs E may_give old new = RunsSo (λ (v w : WorkerNow). TurnsOnce E may_give v w
 
 -- the node of these workers, which share this
 abbrev pub node_of : ShareNow → List WorkerNow → RunNodeNow
-node_of s ws = record { centers = map center_of ws; numbers = s.numbers; throttle = s.throttle }
+node_of s ws = record { centers = map center_of ws; numbers = s.numbers; throttles = s.throttles }
 
 -- the nodes of these workers, of which those of each node share this
 abbrev pub nodes_of_workers : List Node → List ShareNow → List WorkerNow → List RunNodeNow
@@ -78,7 +78,7 @@ pub record IsGroup (x : Node) (s : ShareNow) (ws : List WorkerNow) : Type 0 wher
   pub count : length ws ≡ x.centers
   pub started : AllByRecursion (λ (w : WorkerNow). w.started ≡ x.started) ws
   pub numbers : AllByRecursion (λ (w : WorkerNow). w.numbers ≡ s.numbers) ws
-  pub throttle : AllByRecursion (λ (w : WorkerNow). w.throttle ≡ s.throttle) ws
+  pub throttles : AllByRecursion (λ (w : WorkerNow). w.throttles ≡ s.throttles) ws
 
 -- those of these nodes, node by node, and no more
 abbrev pub AreGrouped : List Node → List ShareNow → List WorkerNow → Type 0

@@ -3,6 +3,7 @@
 ghost use Rattle.std.specs.Prelude.{◌≡◌, ◌++◌, ◌∷◌, ◌<◌, ◌≤◌, [], false, true, Some, List, IfOk, IfSome, OnOk, length, map, slice_get};
 ghost use Rattle.std.specs.List.{AllByRecursion};
 ghost use Rattle.std.specs.Vec.Iter.{into_iter_items};
+ghost use Rattle.m2_dispatch.specs.m2_shared.Gates.{pass_places, places};
 ghost use Rattle.m2_script.specs.m2_center.Finishing.{AllOwn};
 ghost use Rattle.m2_script.specs.m2_center.Making.{CanBegin, new_center};
 ghost use Rattle.m2_fabric.specs.Fabric.{IsUnused};
@@ -498,10 +499,10 @@ fn center_of<P: Port>(
     requires centers { IfSome (slice_get nodes.now k) (λ x. home.now.centers ≡ x.centers) }
     requires port { IfSome (slice_get nodes.now k) (λ x. IsPortFor x port) }
     requires steps { AllByRecursion IsSendableStep steps.items }
-    requires share { IsShare (record { numbers = shared.now.numbers; throttle = shared.now.throttle }) }
-    requires passes { AreFirstOf (record { numbers = shared.now.numbers; throttle = shared.now.throttle }) passes.old }
+    requires share { IsShare (record { numbers = shared.now.numbers; throttles = shared.now.throttles }) }
+    requires passes { AreFirstOf (record { numbers = shared.now.numbers; throttles = shared.now.throttles }) passes.old }
     ensures passes { passes.new ≡ passes.old }
-    ensures served { IfOk result (IsServedBy shared.now.numbers shared.now.throttle) }
+    ensures served { IfOk result (IsServedBy shared.now.numbers shared.now.throttles) }
     ensures beginning { IfOk result (λ c. IfSome (slice_get nodes.now k) (λ x. (all : List StepTowards) → steps.items ≡ steps_at_home nodes.now x.centers home.now.center all → IsBeginning nodes.now links.now all k home.now.center word x c)) }
 {
     let records = planned_records(alloc, nodes, links, k, home, word, steps)?;
@@ -519,11 +520,11 @@ fn center_with<P: Port>(
     passes: Passes,
     shared: &NodeShared,
 ) -> Result<RunCenter<P>, NoMemory>
-    requires begin { CanBegin node.now.entity (seen_port port) records.items passes.throttle passes.numbers }
+    requires begin { CanBegin node.now.entity (seen_port port) records.items passes.throttles passes.numbers }
     requires numbers { passes.numbers.place ≡ shared.now.numbers.place }
-    requires throttle { passes.throttle.place ≡ shared.now.throttle.place }
-    requires owned { AllOwn shared.now.throttle.place records.items }
-    ensures { IfOk result (λ c. c ≡ new_center node.now.entity (seen_port port) records.items [] [] passes.throttle passes.numbers) }
+    requires throttles { pass_places passes.throttles ≡ places shared.now.throttles }
+    requires owned { AllOwn (places shared.now.throttles) records.items }
+    ensures { IfOk result (λ c. c ≡ new_center node.now.entity (seen_port port) records.items [] [] passes.throttles passes.numbers) }
 {
     let of = Unmade {
         entity: node.entity,
@@ -544,8 +545,8 @@ fn center_with<P: Port>(
 
 /// Throws away what no center was made of.
 fn throw_away_unmade<P: Port>(unmade: Unmade<RunPort<P>, LogDispatcher>, shared: &NodeShared)
-    requires pass { unmade.passes.throttle.place ≡ shared.now.throttle.place }
-    requires owned { AllOwn shared.now.throttle.place unmade.records.items }
+    requires passes { pass_places unmade.passes.throttles ≡ places shared.now.throttles }
+    requires owned { AllOwn (places shared.now.throttles) unmade.records.items }
 {
     let Unmade {
         entity: _,
@@ -557,7 +558,7 @@ fn throw_away_unmade<P: Port>(unmade: Unmade<RunPort<P>, LogDispatcher>, shared:
     } = unmade;
     let Passes {
         numbers: _,
-        throttle: mut pass,
+        throttles: mut own,
     } = passes;
-    end_records(records, &shared.throttle, &mut pass);
+    end_records(records, &shared.throttles, &mut own);
 }

@@ -10,7 +10,7 @@ ghost use Rattle.m2_fabric.specs.Log.{log_of};
 ghost use Rattle.m2_links_go_on.specs.ClusterTold.{OneByOne};
 ghost use Rattle.m2_script.specs.m2_record.Sources.{end_at};
 ghost use Rattle.m2_dispatch.specs.Heard.{heard_by};
-ghost use Rattle.m2_dispatch.specs.m2_shared.Place.{IsShared};
+ghost use Rattle.m2_dispatch.specs.m2_shared.Gates.{ArePassesOf, AreShared, pass_places, places};
 ghost use Rattle.m2_script.specs.m2_center.m2_turn.HandingOn.{HandsOn};
 ghost use Rattle.m2_node.specs.Handing.{IsDispatched};
 ghost use Rattle.m2_node.specs.Nodes.{IsServedBy, ends_of_node};
@@ -24,7 +24,7 @@ use m2_bytes::NoMemory;
 use m2_dispatch::{LogDispatcher, Parcel};
 use m2_fabric::{End, EndLog, Port, SocketId};
 use m2_script::{Center, CenterRest, CenterTurn, NodeShared, Passes, Record};
-use m2_shared::{TakePass, Throttle};
+use m2_shared::{TakePasses, Throttles};
 use std::alloc::Global;
 use std::collections::VecDeque;
 use std::marker::Model;
@@ -36,7 +36,7 @@ pub type RunCenter<P> = Center<RunPort<P>, LogDispatcher>;
 /// What the event threads of a node share. It can't be dropped, since a throttle can't.
 pub struct Shares {
     pub(crate) shared: NodeShared,
-    /// Told where something may have been given back to the throttle, or a mail may have room again, for which event threads wait.
+    /// Told where something may have been given back to a throttle, or a mail may have room again, for which event threads wait.
     /// No clause says anything of it.
     pub(crate) given: Condvar,
     /// Told where an event thread has put something into its mail, for which the dispatcher's thread waits. Nor of this.
@@ -48,14 +48,14 @@ impl Model for Shares {
 
     ghost Value = { ShareNow };
 
-    ghost view = { λ s. record { numbers = s.shared.numbers; throttle = s.shared.throttle } };
+    ghost view = { λ s. record { numbers = s.shared.numbers; throttles = s.shared.throttles } };
 }
 
 impl Shares {
     /// What they are.
     pub(crate) fn shared(&self) -> &NodeShared
         ensures numbers { result.now.numbers ≡ self.now.numbers }
-        ensures throttle { result.now.throttle ≡ self.now.throttle }
+        ensures throttles { result.now.throttles ≡ self.now.throttles }
     {
         &self.shared
     }
@@ -70,15 +70,16 @@ pub struct RunNode<'s, P: Port> {
 }
 
 impl<'s, P: Port> Model for RunNode<'s, P> {
+    ghost use Rattle.m2_dispatch.specs.m2_shared.Gates.{places};
     ghost use Rattle.m2_node.specs.Handing.{IsDispatched};
     ghost use Rattle.m2_node.specs.Nodes.{IsRunNode, RunNodeNow};
 
     ghost Value = { RunNodeNow };
 
-    ghost view = { λ n. record { centers = n.centers.items; numbers = n.shared.now.numbers; throttle = n.shared.now.throttle } };
+    ghost view = { λ n. record { centers = n.centers.items; numbers = n.shared.now.numbers; throttles = n.shared.now.throttles } };
 
-    ghost invariant = { λ n. IsRunNode (record { centers = n.centers.items; numbers = n.shared.now.numbers; throttle = n.shared.now.throttle })
-        × IsDispatched n.shared.now.throttle.place n.centers.items n.dispatcher };
+    ghost invariant = { λ n. IsRunNode (record { centers = n.centers.items; numbers = n.shared.now.numbers; throttles = n.shared.now.throttles })
+        × IsDispatched n.shared.now.throttles n.centers.items n.dispatcher };
 }
 
 impl<'s, P: Port> RunNode<'s, P> {
@@ -88,9 +89,9 @@ impl<'s, P: Port> RunNode<'s, P> {
         shared: &'s NodeShared,
         dispatcher: NodeDispatcher<'s>,
     ) -> RunNode<'s, P>
-        requires served { AllByRecursion (IsServedBy shared.now.numbers shared.now.throttle) centers.items }
-        requires dispatched { IsDispatched shared.now.throttle.place centers.items dispatcher }
-        ensures { result ≡ record { centers = centers.items; numbers = shared.now.numbers; throttle = shared.now.throttle } }
+        requires served { AllByRecursion (IsServedBy shared.now.numbers shared.now.throttles) centers.items }
+        requires dispatched { IsDispatched shared.now.throttles centers.items dispatcher }
+        ensures { result ≡ record { centers = centers.items; numbers = shared.now.numbers; throttles = shared.now.throttles } }
     {
         RunNode {
             centers,
@@ -110,9 +111,9 @@ impl<'s, P: Port> RunNode<'s, P> {
     pub fn into_parts(self) -> (Vec<RunCenter<P>>, &'s NodeShared, NodeDispatcher<'s>)
         ensures centers { result.0.items ≡ self.entry.centers }
         ensures shared_numbers { result.1.now.numbers ≡ self.entry.numbers }
-        ensures shared_throttle { result.1.now.throttle ≡ self.entry.throttle }
-        ensures served { AllByRecursion (IsServedBy self.entry.numbers self.entry.throttle) self.entry.centers }
-        ensures dispatched { IsDispatched self.entry.throttle.place self.entry.centers result.2 }
+        ensures shared_throttles { result.1.now.throttles ≡ self.entry.throttles }
+        ensures served { AllByRecursion (IsServedBy self.entry.numbers self.entry.throttles) self.entry.centers }
+        ensures dispatched { IsDispatched self.entry.throttles self.entry.centers result.2 }
     {
         let RunNode {
             centers,
@@ -159,11 +160,11 @@ fn turn_each<P: Port>(
     dispatcher: &mut NodeDispatcher<'_>,
     now: u64,
 ) -> Result<(), NoMemory>
-    requires served { AllByRecursion (IsServedBy shared.now.numbers shared.now.throttle) centers.old.items }
-    requires dispatched { IsDispatched shared.now.throttle.place centers.old.items dispatcher.old }
-    ensures turns { OnOk result (OneByOne (TurnsSo (RunEnd P.End) now shared.now.numbers shared.now.throttle) centers.old.items centers.new.items) }
-    ensures served { AllByRecursion (IsServedBy shared.now.numbers shared.now.throttle) centers.new.items }
-    ensures dispatched { IsDispatched shared.now.throttle.place centers.new.items dispatcher.new }
+    requires served { AllByRecursion (IsServedBy shared.now.numbers shared.now.throttles) centers.old.items }
+    requires dispatched { IsDispatched shared.now.throttles centers.old.items dispatcher.old }
+    ensures turns { OnOk result (OneByOne (TurnsSo (RunEnd P.End) now shared.now.numbers shared.now.throttles) centers.old.items centers.new.items) }
+    ensures served { AllByRecursion (IsServedBy shared.now.numbers shared.now.throttles) centers.new.items }
+    ensures dispatched { IsDispatched shared.now.throttles centers.new.items dispatcher.new }
 {
     let mut parcels = VecDeque::new(alloc);
     let mut turned = Ok(());
@@ -180,9 +181,9 @@ fn turn_each<P: Port>(
 
 /// Each of these centers waits at its port.
 fn poll_each<P: Port>(centers: &mut Vec<RunCenter<P>>, shared: &NodeShared)
-    requires { AllByRecursion (IsServedBy shared.now.numbers shared.now.throttle) centers.old.items }
+    requires { AllByRecursion (IsServedBy shared.now.numbers shared.now.throttles) centers.old.items }
     ensures polls { OneByOne PollsSo centers.old.items centers.new.items }
-    ensures served { AllByRecursion (IsServedBy shared.now.numbers shared.now.throttle) centers.new.items }
+    ensures served { AllByRecursion (IsServedBy shared.now.numbers shared.now.throttles) centers.new.items }
 {
     'centers: for j in 0..centers.len() {
         let _ = centers[j].poll(1);
@@ -209,12 +210,12 @@ pub(crate) fn turn_center<P: Port>(
     into: &mut VecDeque<Parcel>,
 ) -> CenterTurn
     requires numbers { center.old.numbers.place ≡ shared.now.numbers.place }
-    requires throttle { center.old.bytes.place ≡ shared.now.throttle.place }
-    requires shared { IsShared shared.now.throttle.place }
-    ensures on { HandsOn heard_by shared.now.throttle.place center.old.queued.inner center.new.queued.inner into.old.items into.new.items }
-    ensures turns { TurnsSo (RunEnd P.End) now shared.now.numbers shared.now.throttle center.old center.new }
+    requires throttles { pass_places center.old.bytes ≡ places shared.now.throttles }
+    requires shared { AreShared shared.now.throttles }
+    ensures on { HandsOn heard_by (places shared.now.throttles) center.old.queued.inner center.new.queued.inner into.old.items into.new.items }
+    ensures turns { TurnsSo (RunEnd P.End) now shared.now.numbers shared.now.throttles center.old center.new }
     ensures numbers { center.new.numbers.place ≡ center.old.numbers.place }
-    ensures throttle { center.new.bytes.place ≡ center.old.bytes.place }
+    ensures throttles { pass_places center.new.bytes ≡ pass_places center.old.bytes }
 {
     center.is_center();
     let turn = center.turn_on(shared, now, into);
@@ -270,18 +271,18 @@ pub fn clear_nodes<P: Port>(mut nodes: Vec<RunNode<'_, P>>) {
 
 /// Throws away these centers, whose passes are to what they share.
 pub fn clear_centers<P: Port>(mut centers: Vec<RunCenter<P>>, shared: &NodeShared)
-    requires { AllByRecursion (IsServedBy shared.now.numbers shared.now.throttle) centers.items }
+    requires { AllByRecursion (IsServedBy shared.now.numbers shared.now.throttles) centers.items }
 {
     'centers: while let Some(center) = centers.pop() {
-        let _pass = clear_center(center, shared);
+        let _passes = clear_center(center, shared);
     }
     centers.destroy_empty();
 }
 
-/// Throws away a center, whose passes are to what it shares, and gives the one to the throttle.
-pub(crate) fn clear_center<P: Port>(center: RunCenter<P>, shared: &NodeShared) -> TakePass
-    requires { IsServedBy shared.now.numbers shared.now.throttle center }
-    ensures { result.place ≡ shared.now.throttle.place }
+/// Throws away a center, whose passes are to what it shares, and gives those to the throttles.
+pub(crate) fn clear_center<P: Port>(center: RunCenter<P>, shared: &NodeShared) -> TakePasses
+    requires { IsServedBy shared.now.numbers shared.now.throttles center }
+    ensures { ArePassesOf shared.now.throttles result }
 {
     let CenterRest {
         port: _,
@@ -293,22 +294,26 @@ pub(crate) fn clear_center<P: Port>(center: RunCenter<P>, shared: &NodeShared) -
     } = center.finished();
     let Passes {
         numbers: _,
-        throttle: mut pass,
+        throttles: mut own,
     } = passes;
-    end_records(records, &shared.throttle, &mut pass);
-    let _fast = out.clear(&shared.throttle, &mut pass);
-    let _queued = queued.finish(&shared.throttle, &mut pass);
-    pass
+    end_records(records, &shared.throttles, &mut own);
+    let _fast = out.clear(&shared.throttles, &mut own);
+    let _queued = queued.finish(&shared.throttles, &mut own);
+    own
 }
 
 /// Ends these records, which give back what they hold.
-pub fn end_records<E: End>(mut records: Vec<Record<E>>, throttle: &Throttle, pass: &mut TakePass)
-    requires pass { pass.old.place ≡ throttle.now.place }
-    requires owned { AllOwn throttle.now.place records.items }
-    ensures { pass.new.place ≡ pass.old.place }
+pub fn end_records<E: End>(
+    mut records: Vec<Record<E>>,
+    throttles: &Throttles,
+    passes: &mut TakePasses,
+)
+    requires passes { ArePassesOf throttles.now passes.old }
+    requires owned { AllOwn (places throttles.now) records.items }
+    ensures { ArePassesOf throttles.now passes.new }
 {
     'records: while let Some(side) = records.pop() {
-        let _ends = side.ends(throttle, pass);
+        let _ends = side.ends(throttles, passes);
     }
     records.destroy_empty();
 }
@@ -323,7 +328,7 @@ pub fn clear_shares(mut shares: Vec<Shares>) {
         } = share;
         let NodeShared {
             numbers: _,
-            throttle: _,
+            throttles: _,
         } = shared;
     }
     shares.destroy_empty();

@@ -3,11 +3,11 @@
 ghost use Rattle.std.specs.Prelude.{◌≡◌, ◌≤◌, ◌-◌, ◌++◌, [], IfOk, OnOk, false, drop, length, map, reverse, take, vec_capacity, vec_len};
 ghost use Rattle.std.specs.List.{AllByRecursion};
 ghost use Rattle.m2_dispatch.specs.Heard.{Heard, heard_by};
-ghost use Rattle.m2_dispatch.specs.m2_shared.Place.{IsShared};
+ghost use Rattle.m2_dispatch.specs.m2_shared.Gates.{ArePassesOf, AreShared};
 ghost use Rattle.m2_links_go_on.specs.ClusterTold.{OneByOne};
 ghost use Rattle.m2_mailbox.specs.Merge.{IsMerge};
-ghost use Rattle.m2_mailbox.specs.Passes.{IsGetPassOf, owner_of};
-ghost use Rattle.m2_node.specs.Dispatching.{taken_by};
+ghost use Rattle.m2_mailbox.specs.Passes.{IsGetPassOf};
+ghost use Rattle.m2_node.specs.Dispatching.{taken_by, throttles_of};
 ghost use Rattle.m2_node.specs.Handing.{AreHanded, HasHandedNothing, IsSending, handed_by, worker_of};
 ghost use Rattle.m2_node.specs.Posts.{AddsPosts, AreClosable, AreDispatched, ArePosts, ClosesAll, ClosesSender};
 ghost use Rattle.m2_node.specs.Sharing.{AreRights, IsShare};
@@ -30,7 +30,7 @@ use m2_edge::{Clock, Gate};
 use m2_fabric::Port;
 use m2_mailbox::GetPass;
 use m2_scenario::Node;
-use m2_shared::TakePass;
+use m2_shared::TakePasses;
 use std::alloc::Global;
 use std::collections::VecDeque;
 use std::sync::Wait;
@@ -50,7 +50,7 @@ pub(crate) fn posts_of<'s, P: Port>(
     alloc: Global,
     nodes: &[Node],
     shares: &'s [Shares],
-    mut rights: Vec<TakePass>,
+    mut rights: Vec<TakePasses>,
     mut workers: Vec<Worker<'s, P>>,
 ) -> Result<Posts<'s, P>, NoMemory>
     requires groups { AreGrouped nodes.now shares.now workers.items }
@@ -82,7 +82,7 @@ fn add_all_posts<'s, P: Port>(
     alloc: Global,
     nodes: &[Node],
     shares: &'s [Shares],
-    rights: &mut Vec<TakePass>,
+    rights: &mut Vec<TakePasses>,
     workers: &mut Vec<Worker<'s, P>>,
     posts: &mut Posts<'s, P>,
 ) -> Result<(), NoMemory>
@@ -109,14 +109,14 @@ fn add_posts<'s, P: Port>(
     alloc: Global,
     node: &Node,
     shares: &'s Shares,
-    right: TakePass,
+    right: TakePasses,
     workers: &mut Vec<Worker<'s, P>>,
     posts: &mut Posts<'s, P>,
 ) -> Result<(), NoMemory>
     requires group { IsGroup node.now shares.now (take node.now.centers (reverse workers.old.items)) }
     requires nothing { AllByRecursion HasHandedNothing (take node.now.centers (reverse workers.old.items)) }
-    requires shared { IsShared shares.now.throttle.place }
-    requires right { right.place ≡ shares.now.throttle.place }
+    requires shared { AreShared shares.now.throttles }
+    requires right { ArePassesOf shares.now.throttles right }
     ensures adds { OnOk result (AddsPosts node.now shares.now (take node.now.centers (reverse workers.old.items))
         (record { senders = posts.old.senders.items; servers = posts.old.servers.items; mails = posts.old.mails.items })
         (record { senders = posts.new.senders.items; servers = posts.new.servers.items; mails = posts.new.mails.items })) }
@@ -130,7 +130,7 @@ fn add_posts<'s, P: Port>(
     posts.mails.reserve(count)?;
     let first = posts.mails.len();
     'centers: for _ in 0..node.centers {
-        let (mail, put, get) = new_mail(alloc, &shares.shared.throttle)?;
+        let (mail, put, get) = new_mail(alloc, &shares.shared.throttles)?;
         posts.mails.push_reserved(mail);
         gets.push(get)?;
         let Some(worker) = workers.pop() else {
@@ -143,7 +143,7 @@ fn add_posts<'s, P: Port>(
         });
     }
     posts.servers.push_reserved(Serving {
-        dispatcher: NodeDispatcher::new(alloc, &shares.shared.throttle, right),
+        dispatcher: NodeDispatcher::new(alloc, &shares.shared.throttles, right),
         shares,
         gets,
         first,
@@ -178,7 +178,7 @@ pub fn work_out<'s, R, P, C, G>(
     alloc: Global,
     nodes: &[Node],
     shares: &'s [Shares],
-    rights: Vec<TakePass>,
+    rights: Vec<TakePasses>,
     workers: Vec<Worker<'s, P>>,
     signs: &Signs,
     clock: &C,
@@ -285,10 +285,10 @@ fn close_server<'s, R: Wait, P: Port>(
     mails: &mut Vec<Mail>,
     workers: &mut Vec<Worker<'s, P>>,
 ) -> Result<NodeDispatcher<'s>, NoMemory>
-    requires closable { AreClosable server.dispatcher.place server.gets (reverse mails.old.items) (reverse senders.old.items) }
+    requires closable { AreClosable server.dispatcher.throttles server.gets (reverse mails.old.items) (reverse senders.old.items) }
     requires merged { server.dispatcher.lost ≡ false → IsMerge Heard (map taken_by server.gets) (heard_by server.dispatcher.log) }
     requires room { length server.gets ≤ vec_capacity workers.old - vec_len workers.old }
-    ensures place { IfOk result (λ d. d.place ≡ server.entry.dispatcher.place) }
+    ensures throttles { IfOk result (λ d. d.throttles ≡ server.entry.dispatcher.throttles) }
     ensures handed { IfOk result (λ d. AreHanded (map center_of (map worker_of (take (length server.entry.gets) (reverse senders.old.items)))) (heard_by d.log)) }
     ensures workers { OnOk result (workers.new.items ≡ workers.old.items ++ map worker_of (take (length server.entry.gets) (reverse senders.old.items))) }
     ensures senders { OnOk result (reverse senders.new.items ≡ drop (length server.entry.gets) (reverse senders.old.items)) }
@@ -324,7 +324,7 @@ fn close_each<'s, R: Wait, P: Port>(
     workers: &mut Vec<Worker<'s, P>>,
     dispatcher: &mut NodeDispatcher<'s>,
 ) -> Result<(), NoMemory>
-    requires closable { AreClosable dispatcher.old.place (reverse gets.items) (reverse mails.old.items) (reverse senders.old.items) }
+    requires closable { AreClosable dispatcher.old.throttles (reverse gets.items) (reverse mails.old.items) (reverse senders.old.items) }
     requires room { vec_len gets ≤ vec_capacity workers.old - vec_len workers.old }
     ensures workers { OnOk result (workers.new.items ≡ workers.old.items ++ map worker_of (take (vec_len gets) (reverse senders.old.items))) }
     ensures senders { OnOk result (reverse senders.new.items ≡ drop (vec_len gets) (reverse senders.old.items)) }
@@ -360,7 +360,7 @@ fn close_sender<'s, R: Wait, P: Port>(
 ) -> Worker<'s, P>
     requires sends { IsSending mail sender }
     requires gets { IsGetPassOf mail get }
-    requires place { (owner_of mail).place ≡ dispatcher.old.place }
+    requires throttles { throttles_of mail ≡ dispatcher.old.throttles }
     ensures worker { result ≡ sender.entry.worker }
     ensures closed { ClosesSender (taken_by get) (handed_by sender.entry.worker.center) dispatcher.old dispatcher.new }
 {

@@ -22,7 +22,7 @@ use m2_journal::{NodeFacts, PlanStep};
 use m2_policy::profile;
 use m2_scenario::{Link, MOST_NODES, Node};
 use m2_script::{Record, other_of};
-use m2_shared::Throttle;
+use m2_shared::{Bounds, PeerType, Throttles};
 use m2_trail::HomeOf;
 use std::alloc::Global;
 
@@ -74,6 +74,7 @@ fn record_over<E: End>(
                 t.place,
                 t.policy,
                 facts(mine, number, word),
+                PeerType::of_peer(peer.entity),
             )),
         },
     }
@@ -238,10 +239,10 @@ pub(crate) fn planned_records<E: End>(
 fn throw_away_records<E: End>(mut records: Vec<Record<E>>)
     requires { AllByRecursion IsBegun records.items }
 {
-    let (throttle, mut pass) = Throttle::alone(0);
+    let (throttles, mut passes) = Throttles::alone(&Bounds::of_dispatch(0));
     'records: while let Some(side) = records.pop() {
-        let _ends = side.ends(&throttle, &mut pass);
+        let _ends = side.ends(&throttles, &mut passes);
     }
     records.destroy_empty();
-    let _out = throttle.close(pass);
+    let _out = throttles.close(passes);
 }

@@ -3,9 +3,9 @@
 ghost use Rattle.std.specs.Bool.{OnFalse, OnTrue};
 ghost use Rattle.std.specs.Prelude.{◌≡◌, ◌≢◌, ◌⊎◌, [], true, IfSome, slice_get};
 ghost use Rattle.m2_dispatch.specs.Parcel.{AllOwned};
-ghost use Rattle.m2_dispatch.specs.m2_shared.Place.{IsShared};
-ghost use Rattle.m2_mailbox.specs.Passes.{IsPutPassOf, WasFull, owner_of};
-ghost use Rattle.m2_node.specs.Dispatching.{Mail as MailNow};
+ghost use Rattle.m2_dispatch.specs.m2_shared.Gates.{AreShared, places};
+ghost use Rattle.m2_mailbox.specs.Passes.{IsPutPassOf, WasFull};
+ghost use Rattle.m2_node.specs.Dispatching.{Mail as MailNow, throttles_of};
 ghost use Rattle.m2_node.specs.Handing.{IsSending, RunsSender, SenderNow, SendsOnce};
 ghost use Rattle.m2_node.specs.Watching.{UntilStop};
 ghost use Rattle.m2_node.specs.Working.{Stops, TurnsOnce, WaitsOnce, WorkerNow};
@@ -31,13 +31,14 @@ pub(crate) struct Sender<'s, P: Port> {
 
 impl<'s, P: Port> Model for Sender<'s, P> {
     ghost use Rattle.m2_dispatch.specs.Parcel.{AllOwned};
+    ghost use Rattle.m2_dispatch.specs.m2_shared.Gates.{places};
     ghost use Rattle.m2_node.specs.Handing.{SenderNow};
 
     ghost Value = { SenderNow };
 
     ghost view = { λ s. record { worker = s.worker; put = s.put; waiting = s.waiting.items } };
 
-    ghost invariant = { λ s. AllOwned s.worker.throttle.place s.waiting.items };
+    ghost invariant = { λ s. AllOwned (places s.worker.throttles) s.waiting.items };
 }
 
 impl<'s, P: Port> Sender<'s, P> {
@@ -114,7 +115,7 @@ impl<'s, P: Port> Sender<'s, P> {
         gate: &G,
     ) -> bool
         requires started { self.old.worker.started ≡ true }
-        requires shared { IsShared self.old.worker.throttle.place }
+        requires shared { AreShared self.old.worker.throttles }
         ensures goes { OnTrue result (((self.old.waiting ≡ []) × TurnsOnce (RunEnd P.End) (C.may_give clock.now) self.old.worker self.new.worker) ⊎ ((self.old.waiting ≢ []) × WaitsOnce self.old.worker self.new.worker)) }
         ensures stops { OnFalse result (Stops self.old.worker self.new.worker) }
         ensures put { self.new.put ≡ self.old.put }
@@ -150,8 +151,8 @@ fn put_all<R: Wait>(
     waiting: &mut VecDeque<Parcel>,
 ) -> bool
     requires ours { IsPutPassOf mail.now put.old }
-    requires owned { AllOwned (owner_of mail.now).place waiting.old.items }
-    ensures owned { AllOwned (owner_of mail.now).place waiting.new.items }
+    requires owned { AllOwned (places (throttles_of mail.now)) waiting.old.items }
+    ensures owned { AllOwned (places (throttles_of mail.now)) waiting.new.items }
     ensures sends { (w : WorkerNow) → IsSending mail.now (record { worker = w; put = put.old; waiting = waiting.old.items })
         → IsSending mail.now (record { worker = w; put = put.new; waiting = waiting.new.items }) }
     ensures full { (waiting.new.items ≡ []) ⊎ WasFull mail.now put.new }

@@ -1,6 +1,7 @@
 //! What the event threads of nodes share.
 
 ghost use Rattle.std.specs.Prelude.{◌≡◌, [], ℕ, IfOk, OnOk, length};
+ghost use Rattle.m2_dispatch.specs.m2_shared.Gates.{ArePassesOf, AreShared, unused_by};
 ghost use Rattle.m2_dispatch.specs.m2_shared.Place.{IsShared};
 ghost use Rattle.m2_node.specs.Sharing.{AddsShare, AreRights, AreSharesOf};
 
@@ -8,7 +9,7 @@ use crate::node::{Shares, clear_shares};
 use m2_bytes::NoMemory;
 use m2_scenario::Node;
 use m2_script::{NodeShared, Passes};
-use m2_shared::{NumberPass, Numbers, TakePass, Throttle};
+use m2_shared::{Bounds, NumberPass, Numbers, TakePasses, Throttles};
 use std::alloc::Global;
 use std::marker::Model;
 use std::sync::Condvar;
@@ -17,7 +18,7 @@ use std::sync::Condvar;
 #[derive(Drop)]
 pub struct FirstPasses {
     numbers: NumberPass,
-    throttle: TakePass,
+    throttles: TakePasses,
 }
 
 impl Model for FirstPasses {
@@ -25,7 +26,7 @@ impl Model for FirstPasses {
 
     ghost Value = { FirstPassesNow };
 
-    ghost view = { λ p. record { numbers = p.numbers; throttle = p.throttle } };
+    ghost view = { λ p. record { numbers = p.numbers; throttles = p.throttles } };
 }
 
 /// What the threads of each node share, with the first passes to it. It can't be dropped, since a throttle can't.
@@ -52,22 +53,22 @@ pub fn shared_by(alloc: Global, nodes: &[Node]) -> Result<Shared, NoMemory>
     Ok(of)
 }
 
-/// Those of a node with this bound go last.
+/// Those of a node whose dispatch has this bound go last. Its other throttles have none.
 fn add_shares(alloc: Global, most: u64, of: &mut Shared) -> Result<(), NoMemory>
     ensures { OnOk result (AddsShare of.old.shares.items of.old.passes.items of.new.shares.items of.new.passes.items) }
 {
     of.shares.reserve(1)?;
     of.passes.reserve(1)?;
     let (numbers, number_pass) = Numbers::new(alloc)?;
-    let (throttle, take_pass) = Throttle::new(alloc, most)?;
+    let (throttles, passes) = Throttles::new(alloc, &Bounds::of_dispatch(most))?;
     of.shares.push_reserved(Shares {
-        shared: NodeShared { numbers, throttle },
+        shared: NodeShared { numbers, throttles },
         given: Condvar::new(),
         posted: Condvar::new(),
     });
     of.passes.push_reserved(FirstPasses {
         numbers: number_pass,
-        throttle: take_pass,
+        throttles: passes,
     });
     Ok(())
 }
@@ -76,26 +77,26 @@ impl FirstPasses {
     /// The passes of one thread.
     pub(crate) fn split(&mut self, shared: &NodeShared) -> Passes
         requires numbers { self.old.numbers.place ≡ shared.now.numbers.place }
-        requires throttle { self.old.throttle.place ≡ shared.now.throttle.place }
+        requires throttles { ArePassesOf shared.now.throttles self.old.throttles }
         requires numbers_shared { IsShared shared.now.numbers.place }
-        requires throttle_shared { IsShared shared.now.throttle.place }
+        requires throttles_shared { AreShared shared.now.throttles }
         ensures same { self.new ≡ self.old }
         ensures numbers { result.numbers ≡ record self.old.numbers { drawn = [] } }
-        ensures throttle { result.throttle ≡ record self.old.throttle { word = 0; changes = [] } }
+        ensures throttles { result.throttles ≡ unused_by shared.now.throttles }
     {
         Passes {
             numbers: self.numbers.split(&shared.numbers),
-            throttle: self.throttle.split(&shared.throttle),
+            throttles: self.throttles.split(&shared.throttles),
         }
     }
     /// The right to give back of the thread of the node's dispatcher.
-    fn split_right(&mut self, shared: &NodeShared) -> TakePass
-        requires throttle { self.old.throttle.place ≡ shared.now.throttle.place }
-        requires shared { IsShared shared.now.throttle.place }
+    fn split_right(&mut self, shared: &NodeShared) -> TakePasses
+        requires throttles { ArePassesOf shared.now.throttles self.old.throttles }
+        requires shared { AreShared shared.now.throttles }
         ensures same { self.new ≡ self.old }
-        ensures throttle { result.place ≡ shared.now.throttle.place }
+        ensures throttles { result ≡ unused_by shared.now.throttles }
     {
-        self.throttle.split(&shared.throttle)
+        self.throttles.split(&shared.throttles)
     }
 }
 
@@ -104,7 +105,7 @@ pub fn rights_of(
     alloc: Global,
     shares: &[Shares],
     passes: &mut Vec<FirstPasses>,
-) -> Result<Vec<TakePass>, NoMemory>
+) -> Result<Vec<TakePasses>, NoMemory>
     requires { (count : ℕ) × AreSharesOf count shares.now passes.old.items }
     ensures same { passes.new.items ≡ passes.old.items }
     ensures rights { IfOk result (λ rights. AreRights shares.now rights.items) }

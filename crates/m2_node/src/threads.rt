@@ -6,6 +6,7 @@ ghost use Rattle.std.specs.Fork.{AcceptsEach, ChangesEach};
 ghost use Rattle.std.specs.List.{AllByRecursion};
 ghost use Rattle.m2_links_go_on.specs.ClusterTold.{OneByOne};
 ghost use Rattle.m2_dispatch.specs.Parcel.{AllOwned};
+ghost use Rattle.m2_dispatch.specs.m2_shared.Gates.{places};
 ghost use Rattle.m2_node.specs.Nodes.{IsServedBy};
 ghost use Rattle.m2_node.specs.Dispatching.{IsServing, RunsServing, Serves};
 ghost use Rattle.m2_node.specs.Handing.{IsDispatched, IsSending, RunsSender};
@@ -245,7 +246,7 @@ fn join_node<'s, P: Port>(
     dispatcher: NodeDispatcher<'s>,
 ) -> Result<RunNode<'s, P>, NoMemory>
     requires group { IsGroup node.now shares.now (take node.now.centers (reverse workers.old.items)) }
-    requires dispatched { IsDispatched shares.now.throttle.place (map center_of (take node.now.centers (reverse workers.old.items))) dispatcher }
+    requires dispatched { IsDispatched shares.now.throttles (map center_of (take node.now.centers (reverse workers.old.items))) dispatcher }
     ensures node { IfOk result (λ n. n ≡ node_of shares.now (take node.now.centers (reverse workers.old.items))) }
     ensures left { IfOk result (λ _. reverse workers.new.items ≡ drop node.now.centers (reverse workers.old.items)) }
 {
@@ -267,7 +268,7 @@ fn join_centers<'s, P: Port>(
 ) -> Result<Vec<RunCenter<P>>, NoMemory>
     requires { IsGroup node.now shares.now (take node.now.centers (reverse workers.old.items)) }
     ensures centers { IfOk result (λ centers. centers.items ≡ map center_of (take node.now.centers (reverse workers.old.items))) }
-    ensures served { IfOk result (λ centers. AllByRecursion (IsServedBy shares.now.numbers shares.now.throttle) centers.items) }
+    ensures served { IfOk result (λ centers. AllByRecursion (IsServedBy shares.now.numbers shares.now.throttles) centers.items) }
     ensures left { IfOk result (λ _. reverse workers.new.items ≡ drop node.now.centers (reverse workers.old.items)) }
 {
     let mut centers = room_for_centers(alloc, node.centers as usize)?;
@@ -296,19 +297,19 @@ fn latest_of<P: Port>(workers: &[Worker<'_, P>], start: u64) -> u64
 pub(crate) fn throw_away<P: Port>(mut workers: Vec<Worker<'_, P>>) {
     'workers: while let Some(worker) = workers.pop() {
         let (center, shares) = worker.into_parts();
-        let _pass = clear_center(center, &shares.shared);
+        let _passes = clear_center(center, &shares.shared);
     }
     workers.destroy_empty();
 }
 
 /// One, with what it has handed on and nobody took.
 pub(crate) fn throw_away_worker<P: Port>(worker: Worker<'_, P>, mut waiting: VecDeque<Parcel>)
-    requires { AllOwned worker.throttle.place waiting.items }
+    requires { AllOwned (places worker.throttles) waiting.items }
 {
     let (center, shares) = worker.into_parts();
-    let mut pass = clear_center(center, &shares.shared);
+    let mut passes = clear_center(center, &shares.shared);
     'parcels: while let Some(parcel) = waiting.pop_front() {
-        give_back(parcel, &shares.shared.throttle, &mut pass);
+        give_back(parcel, &shares.shared.throttles, &mut passes);
     }
     waiting.destroy_empty();
 }

@@ -3,7 +3,7 @@
 ghost use Rattle.std.specs.Bool.{OnFalse, OnTrue};
 ghost use Rattle.std.specs.Prelude.{◌≡◌, ◌⊎◌, IfSome, drop, is_some, true};
 ghost use Rattle.m2_dispatch.specs.Heard.{heard_by};
-ghost use Rattle.m2_dispatch.specs.m2_shared.Place.{IsShared};
+ghost use Rattle.m2_dispatch.specs.m2_shared.Gates.{AreShared, pass_places, places};
 ghost use Rattle.m2_edge.specs.Clock.{IsNextMoment};
 ghost use Rattle.m2_script.specs.m2_center.m2_turn.HandingOn.{HandsOn};
 ghost use Rattle.m2_node.specs.Counting.{count_in, count_on, does_count};
@@ -29,7 +29,7 @@ use std::time::Duration;
 /// How long a thread waits at its port behind a turn that did nothing, in milliseconds.
 const WAIT: u32 = 10;
 
-/// How long it waits at most until another thread gives back what the throttle has granted, or makes room in its mail, in
+/// How long it waits at most until another thread gives back what a throttle has granted, or makes room in its mail, in
 /// milliseconds; it hears nothing of its sockets so long.
 const WAIT_FOR_ROOM: u64 = 1;
 
@@ -90,7 +90,7 @@ pub struct Worker<'s, P: Port> {
     fast: usize,
     watch: Watch,
     ghost numbers: { center.numbers.place ≡ shares.now.numbers.place },
-    ghost throttle: { center.bytes.place ≡ shares.now.throttle.place },
+    ghost throttles: { pass_places center.bytes ≡ places shares.now.throttles },
 }
 
 impl<'s, P: Port> Model for Worker<'s, P> {
@@ -98,7 +98,7 @@ impl<'s, P: Port> Model for Worker<'s, P> {
 
     ghost Value = { WorkerNow };
 
-    ghost view = { λ w. record { center = w.center; numbers = w.shares.now.numbers; throttle = w.shares.now.throttle; started = w.is_started; moment = w.moment; watch = w.watch } };
+    ghost view = { λ w. record { center = w.center; numbers = w.shares.now.numbers; throttles = w.shares.now.throttles; started = w.is_started; moment = w.moment; watch = w.watch } };
 }
 
 impl<'s, P: Port> Worker<'s, P> {
@@ -111,8 +111,8 @@ impl<'s, P: Port> Worker<'s, P> {
         moment: u64,
         counts: Vec<bool>,
     ) -> Worker<'s, P>
-        requires { IsServedBy shares.now.numbers shares.now.throttle center }
-        ensures { result ≡ record { center = center; numbers = shares.now.numbers; throttle = shares.now.throttle; started = is_started; moment = moment; watch = new_watch } }
+        requires { IsServedBy shares.now.numbers shares.now.throttles center }
+        ensures { result ≡ record { center = center; numbers = shares.now.numbers; throttles = shares.now.throttles; started = is_started; moment = moment; watch = new_watch } }
     {
         Worker {
             center,
@@ -137,8 +137,8 @@ impl<'s, P: Port> Worker<'s, P> {
     pub(crate) fn into_parts(self) -> (RunCenter<P>, &'s Shares)
         ensures center { result.0 ≡ self.entry.center }
         ensures shared_numbers { result.1.now.numbers ≡ self.entry.numbers }
-        ensures shared_throttle { result.1.now.throttle ≡ self.entry.throttle }
-        ensures served { IsServedBy self.entry.numbers self.entry.throttle self.entry.center }
+        ensures shared_throttles { result.1.now.throttles ≡ self.entry.throttles }
+        ensures served { IsServedBy self.entry.numbers self.entry.throttles self.entry.center }
     {
         let Worker {
             center,
@@ -171,7 +171,7 @@ impl<'s, P: Port> Worker<'s, P> {
         shares.given.notifications()
     }
 
-    /// One turn, unless the signs say stop: whether it took one. What it hands on goes last among these parcels. Where the throttle
+    /// One turn, unless the signs say stop: whether it took one. What it hands on goes last among these parcels. Where a throttle
     /// has no room it waits until something is given back, unless that was told since `seen`.
     pub(crate) fn go_on<R: Wait, C: Clock, G: Gate>(
         &mut self,
@@ -183,10 +183,10 @@ impl<'s, P: Port> Worker<'s, P> {
         into: &mut VecDeque<Parcel>,
     ) -> bool
         requires started { self.old.started ≡ true }
-        requires shared { IsShared self.old.throttle.place }
+        requires shared { AreShared self.old.throttles }
         ensures turns { OnTrue result (TurnsOnce (RunEnd P.End) (C.may_give clock.now) self.old self.new) }
         ensures stops { OnFalse result (Stops self.old self.new) }
-        ensures on { HandsOn heard_by self.old.throttle.place self.old.center.queued.inner self.new.center.queued.inner into.old.items into.new.items }
+        ensures on { HandsOn heard_by (places self.old.throttles) self.old.center.queued.inner self.new.center.queued.inner into.old.items into.new.items }
     {
         let Some(now) = self.ask(signs, clock) else {
             return false;
@@ -256,14 +256,14 @@ impl<'s, P: Port> Worker<'s, P> {
         now: u64,
         into: &mut VecDeque<Parcel>,
     )
-        requires shared { IsShared self.old.throttle.place }
+        requires shared { AreShared self.old.throttles }
         ensures moment { self.new.moment ≡ now }
         ensures started { self.new.started ≡ self.old.started }
         ensures numbers { self.new.numbers ≡ self.old.numbers }
-        ensures throttle { self.new.throttle ≡ self.old.throttle }
+        ensures throttles { self.new.throttles ≡ self.old.throttles }
         ensures watch { self.new.watch ≡ self.old.watch }
-        ensures steps { StepsSo (RunEnd P.End) now self.old.numbers self.old.throttle self.old.center self.new.center }
-        ensures on { HandsOn heard_by self.old.throttle.place self.old.center.queued.inner self.new.center.queued.inner into.old.items into.new.items }
+        ensures steps { StepsSo (RunEnd P.End) now self.old.numbers self.old.throttles self.old.center self.new.center }
+        ensures on { HandsOn heard_by (places self.old.throttles) self.old.center.queued.inner self.new.center.queued.inner into.old.items into.new.items }
     {
         let turn = turn_center(&mut self.center, self.shares.shared(), now, into);
         self.moment = now;
@@ -274,7 +274,7 @@ impl<'s, P: Port> Worker<'s, P> {
         }
     }
 
-    /// Waits at its port; where the throttle has no room, until something is given back, unless that was told since `seen`.
+    /// Waits at its port; where a throttle has no room, until something is given back, unless that was told since `seen`.
     fn rest<R: Wait>(&mut self, rt: &R, seen: u64, now: u64)
         ensures same { self.new ≡ record self.old { center = self.new.center } }
         ensures waits { (self.new.center ≡ self.old.center) ⊎ PollsSo self.old.center self.new.center }
@@ -319,7 +319,7 @@ fn sleep_until_given<R: Wait>(rt: &R, shares: &Shares, seen: u64) -> u32 {
     0
 }
 
-/// Whether one of these records has read a message for which the throttle has no room.
+/// Whether one of these records has read a message for which a throttle has no room.
 fn wait_for_room<E: End>(records: &[Record<E>], now: u64) -> bool {
     records.iter().any(|side| side.due(now) == Due::Frame)
 }

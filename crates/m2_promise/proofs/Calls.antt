@@ -1,4 +1,5 @@
 -- What a node's dispatchers were called with only grows, and each call is one of a turn that was noted.
+use Rattle.m2_dispatch.specs.m2_shared.Gates.{places}
 use Rattle.std.proofs.Common.{◌≡◌, ℕ, ◌+◌, ◌-◌, ◌≤◌, ◌⊎◌, inl, inr, Bool, true, false, ◌&&◌, ◌==◌, if◌then◌else◌, List, [], ◌∷◌, ◌++◌, length, Option, Some, None, Ok, sum_by, length-append, refl, sym, ap, subst, ◌∙◌, arith}
 use Rattle.std.specs.Prelude.{slice_get, slice_set}
 use Rattle.std.specs.Option.{option_map}
@@ -26,7 +27,7 @@ use Rattle.m2_script.specs.declared.calls.TurnCalls.{TurnCalls}
 use Rattle.m2_script.specs.Outcome.{of_node}
 use Rattle.m2_script.specs.Script.{Deed, Ends, Happens, IsPassed, PlansStep, RunNow, calls_between, fast_calls, fault, flow, meet, noted, plan, queued_calls, turn}
 use Rattle.m2_script.specs.Script as script
-use Rattle.m2_dispatch.specs.m2_shared.Place.{Place}
+use Rattle.m2_dispatch.specs.m2_shared.Gates.{Places}
 use Rattle.m2_fabric.specs.InStep.{Network}
 use Rattle.m2_script.specs.m2_center.m2_turn.declared.mailing.Mailed.{Mailed}
 use Rattle.m2_script.specs.m2_center.m2_turn.declared.mailing.Mailed.TheVariants as mailed
@@ -83,8 +84,8 @@ module _ {D : Type 0} (heard : D → List Heard) where
   handed (stepped.Hand x) old new p = put x old new p
   handed stepped.Moved old new e = still old new (ap (λ (o : OutboxNow D). o.fast) e)
   handed stepped.Dry old new e = still old new (ap (λ (o : OutboxNow D). o.fast) e)
-  handed (stepped.Full n) old new e = still old new (ap (λ (o : OutboxNow D). o.fast) e)
-  handed (stepped.Again seen now) old new e = still old new (ap (λ (o : OutboxNow D). o.fast) e)
+  handed (stepped.Full stage n) old new e = still old new (ap (λ (o : OutboxNow D). o.fast) e)
+  handed (stepped.Again stage seen now) old new e = still old new (ap (λ (o : OutboxNow D). o.fast) e)
   handed stepped.Spent old new e = still old new (ap (λ (o : OutboxNow D). o.fast) e)
   handed (stepped.Faulted f) old new e = still old new (ap (λ (o : OutboxNow D). o.fast) e)
   handed stepped.NoMemory old new e = still old new (ap (λ (o : OutboxNow D). o.fast) e)
@@ -100,8 +101,8 @@ module _ {D : Type 0} (heard : D → List Heard) where
   turned m one.Busy old new t = steps m t.stood old new t.steps
   turned m one.Stuck old new t = steps m t.led.stood old new t.led.steps
   turned m one.Dry old new t = ended m one.Dry old new t
-  turned m (one.Full n) old new t = ended m (one.Full n) old new t
-  turned m (one.Again seen now) old new t = ended m (one.Again seen now) old new t
+  turned m (one.Full stage n) old new t = ended m (one.Full stage n) old new t
+  turned m (one.Again stage seen now) old new t = ended m (one.Again stage seen now) old new t
   turned m one.Spent old new t = ended m one.Spent old new t
   turned m (one.Faulted f) old new t = ended m (one.Faulted f) old new t
   turned m one.NoMemory old new t = ended m one.NoMemory old new t
@@ -137,20 +138,20 @@ module _ {D : Type 0} (heard : D → List Heard) where
     fast : new.out.fast ≡ old.out.fast
     queued : length (heard old.queue.queued.inner) ≤ length (heard new.queue.queued.inner)
 
-  puts_on : (place : Place) (old new : Mailing D) → PutsSome heard place old new → MailsOn old new
+  puts_on : (place : Places) (old new : Mailing D) → PutsSome heard place old new → MailsOn old new
   puts_on place old new p = record {
     fast = ap (λ (o : OutboxNow D). o.fast) p.out;
     queued = longer (heard old.queue.queued.inner) (heard new.queue.queued.inner) (heard_at_puts p.put) p.heard_more;
   }
 
-  mails_on : (place : Place) (old new : Mailing D) → MailsSome heard place old new → MailsOn old new
+  mails_on : (place : Places) (old new : Mailing D) → MailsSome heard place old new → MailsOn old new
   mails_on place old new s =
       let first = puts_on place old (record { out = new.out; queue = s.mid }) s.puts in
       let rest = longer (heard s.mid.queued.inner) (heard new.queue.queued.inner) _ s.dispatches.heard_more in
       let before = first.queued in
       record { fast = first.fast; queued = omega (arith, before, rest) }
 
-  mailed_on : (place : Place) (result : Mailed) (old new : Mailing D) → Mails heard place result old new → MailsOn old new
+  mailed_on : (place : Places) (result : Mailed) (old new : Mailing D) → Mails heard place result old new → MailsOn old new
   mailed_on place mailed.Moved old new (s, a, b) = mails_on place old new s
   mailed_on place mailed.Dry old new (s, a, b) = mails_on place old new s
   mailed_on place mailed.NoMemory old new (inl (p, a)) = puts_on place old new p
@@ -170,7 +171,7 @@ module _ {D : Type 0} (heard : D → List Heard) where
       let b_queue = ap (λ (x : CenterNow D). length (heard x.queued.inner)) halves.only in
       let c_out = records_turned m stepped (all_amid_in b) (all_amid_in c) records.turns in
       let c_queue = ap (λ (x : CenterNow D). length (heard x.queued.inner)) records.only in
-      let its = mailed_on m.throttle.place result (mailing_in c) (mailing_in new) mail.mails in
+      let its = mailed_on (places m.throttles) result (mailing_in c) (mailing_in new) mail.mails in
       let d_out = ap (λ d. length (heard d)) its.fast in
       let d_queue = its.queued in
       record { fast = omega (arith, a_out, b_out, c_out, d_out); queued = omega (arith, a_queue, b_queue, c_queue, d_queue) }

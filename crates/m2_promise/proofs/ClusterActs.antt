@@ -1,4 +1,5 @@
 -- Where one node of a cluster acts, one node of the run does.
+use Rattle.m2_dispatch.specs.m2_shared.Gates.{pass_places}
 use Rattle.std.proofs.Common.{◌≡◌, ℕ, zero, suc, List, [], ◌∷◌, ◌++◌, length, map, slice_get, slice_set, Option, Some, None, refl, sym, ap, subst, ◌∙◌}
 use Rattle.m2_fabric.specs.m2_addr.declared.addr.Addr.{Addr}
 use Rattle.m2_fabric.specs.declared.socket.SocketId.{SocketId}
@@ -78,7 +79,7 @@ module _ {D : Type 0} where
     halves = refl;
     records = unused;
     sides = sides;
-    supply = record { place = bytes.place; least = numbers.least };
+    supply = record { places = pass_places bytes; least = numbers.least };
     entity = entity;
     consistent = consistent;
   }
@@ -119,13 +120,13 @@ module _ {D : Type 0} where
 pub one_turn : (D E : Type 0) → OneTurnActs D E
 one_turn D E heard now answer i fabric old new does port own node memory brought =
     acts_so i (NodeTurns E heard now answer) fabric old new does
-    (turn_grows D E heard (means_at now does.before.numbers does.before.throttle) answer does.before.center does.behind.center does.does.turns own)
-    (turn_brings D E heard (means_at now does.before.numbers does.before.throttle) answer does.before.center does.behind.center does.does.turns port own)
+    (turn_grows D E heard (means_at now does.before.numbers does.before.throttles) answer does.before.center does.behind.center does.does.turns own)
+    (turn_brings D E heard (means_at now does.before.numbers does.before.throttles) answer does.before.center does.behind.center does.does.turns port own)
     node (node_turn_grows D E heard now answer i old new does own memory brought)
 
 pub one_plan : (D : Type 0) → OnePlanActs D
 one_plan D answer peer step now i fabric old new does port own node memory brought =
     acts_so i (NodePlans answer peer step now) fabric old new does
-    (plan_grows D answer peer step now does.before.throttle.place does.before.center does.behind.center does.does.plans own)
-    (plan_brings D answer peer step now does.before.throttle.place does.before.center does.behind.center does.does.plans own)
+    (plan_grows D answer peer step now does.before.throttles does.before.center does.behind.center does.does.plans own)
+    (plan_brings D answer peer step now does.before.throttles does.before.center does.behind.center does.does.plans own)
     node (node_plan_grows D answer peer step now i old new does own memory brought)

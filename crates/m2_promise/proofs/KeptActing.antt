@@ -93,7 +93,7 @@ module _ {D : Type 0} where
     pub turn_rests : (E : Type 0) → OneTurnActs D E → TurnStaysUnused D E → (heard : D → List Heard) (a : ℕ) (old new : RunNow D) → TakesTurn E heard a old new →
         AllByRecursion IsWholeNode old.cluster.nodes → AllByRecursion IsWholeNode new.cluster.nodes → IsAtRest (run_in old) → IsAtRest (run_in new)
     turn_rests E turn unused heard a old new t =
-        let m = means_at old.now t.acts.before.numbers t.acts.before.throttle in
+        let m = means_at old.now t.acts.before.numbers t.acts.before.throttles in
         acts_so a (NodeTurns E heard old.now (Ok tt)) old new t.acts t.fabric (turn heard old.now (Ok tt) a old.fabric old.cluster new.cluster t.acts)
         (turn_stands E heard m (Ok tt) t.acts.before.center t.acts.behind.center t.acts.does.turns)
         (unused heard m (Ok tt) t.acts.before.center t.acts.behind.center t.acts.does.turns)
@@ -101,7 +101,7 @@ module _ {D : Type 0} where
     pub plan_rests : OnePlanActs D → PlanStaysUnused D → (a b : ℕ) (x : PlanStep) (old new : RunNow D) → PlansStep (Ok tt) a b x old new →
         AllByRecursion IsWholeNode old.cluster.nodes → AllByRecursion IsWholeNode new.cluster.nodes → IsAtRest (run_in old) → IsAtRest (run_in new)
     plan_rests plan unused a b x old new p =
-        let place = p.acts.before.throttle.place in
+        let throttles = p.acts.before.throttles in
         acts_so a (NodePlans (Ok tt) b x old.now) old new p.acts p.fabric (plan (Ok tt) b x old.now a old.fabric old.cluster new.cluster p.acts)
-        (plan_stands (Ok tt) b x old.now place p.acts.before.center p.acts.behind.center p.acts.does.plans)
-        (unused (Ok tt) b x old.now place p.acts.before.center p.acts.behind.center p.acts.does.plans)
+        (plan_stands (Ok tt) b x old.now throttles p.acts.before.center p.acts.behind.center p.acts.does.plans)
+        (unused (Ok tt) b x old.now throttles p.acts.before.center p.acts.behind.center p.acts.does.plans)

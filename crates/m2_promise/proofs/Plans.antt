@@ -112,10 +112,10 @@ pub plan_stays_kept : {D : Type 0} (heard : D → List Heard) (i b : ℕ) (x : P
     AreOwn (holding_of old.center) → IsWholeNode old → IsWholeNode new → IsKeptNode heard old → PlansMore heard i b x old new
 plan_stays_kept {D} heard i b x now old new p own whole later kept = record {
   kept = record {
-    logged = plans_stay_logged heard (Ok tt) b x now old.throttle.place old.center new.center p.plans own whole.records later.records kept.logged;
+    logged = plans_stay_logged heard (Ok tt) b x now old.throttles old.center new.center p.plans own whole.records later.records kept.logged;
     taken = subst (AllByRecursion IsTaken) (sym records)
         (all_set IsTaken old.center.records p.plans.place p.plans.behind kept.taken (taken_further x p.plans.before p.plans.behind more.plan more.steps was_taken));
-    peers = plans_stay_of_peers heard (Ok tt) b x now old.throttle.place old.center new.center p.plans kept.peers;
+    peers = plans_stay_of_peers heard (Ok tt) b x now old.throttles old.center new.center p.plans kept.peers;
   };
   plans = subst (OneByOne (GoesOnBy i (plan i b x ∷ [])) old.center.records) (sym records)
       (all_go i b x old.center.records p.plans.place p.plans.before p.plans.behind p.plans.side towards kept.logged.peers more);

@@ -8,7 +8,7 @@ use Rattle.m2_fabric.specs.Sockets.{is_among}
 use Rattle.m2_links_go_on.specs.m2_weave.m2_journal.declared.facts.PlanStep.{PlanStep}
 use Rattle.m2_script.specs.m2_record.RecordNow.{ids_of}
 use Rattle.m2_script.specs.m2_record.Sources.{end_at}
-use Rattle.m2_dispatch.specs.m2_shared.Place.{Place}
+use Rattle.m2_dispatch.specs.m2_shared.declared.throttles.Throttles.{Throttles}
 use Rattle.m2_script.specs.m2_center.m2_turn.RecordTurn.{Means}
 use Rattle.m2_script.specs.m2_center.Center.{CenterNow}
 use Rattle.m2_script.specs.m2_center.CenterTurn.{AndThen, Answer, AcceptsSo, AnswersSo, DeliversSo, Part, StepsSo, TakesTurn, accepting_in, all_amid_in}
@@ -71,7 +71,7 @@ module _ {D : Type 0} where
       (and_then (AnswersSo E m) (AndThen (StepsSo heard m) (DeliversSo heard m)) (answers_so E m)
       (and_then (StepsSo heard m) (DeliversSo heard m) (steps_so heard m) (delivers_so heard m)))
 
-  pub plan_stands : (answer : Answer) (peer : ℕ) (x : PlanStep) (now : ℕ) (throttle : Place) (old new : CenterNow D) → PlansIn answer peer x now throttle old new →
+  pub plan_stands : (answer : Answer) (peer : ℕ) (x : PlanStep) (now : ℕ) (throttles : Throttles) (old new : CenterNow D) → PlansIn answer peer x now throttles old new →
       AreOwn (holding_of old) → Stands (holding_of old) (holding_of new)
   plan_stands answer peer x now throttle old new p own = record {
     grows = plan_grows D answer peer x now throttle old new p own;

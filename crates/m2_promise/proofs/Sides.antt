@@ -17,6 +17,7 @@ use Rattle.m2_scenario.specs.Draft.{joins}
 use Rattle.m2_script.specs.declared.made.Towards.{Towards}
 use Rattle.m2_promise.specs.AtEnd.{HaveTheSame, Named, named}
 use Rattle.m2_script.specs.Made.{facts_of, new_towards, other_of, over, records_of}
+use Rattle.m2_dispatch.specs.m2_shared.Gates.{peer_type}
 use Rattle.m2_fabric.proofs.m2_lemmas.Booleans.{from_false_true}
 
 -- ---- lists
@@ -90,7 +91,7 @@ module _ (nodes : List Node) (number word : ℕ) where
       by None peer f g = absurd (none-some r g)
       by (Some m) None f g = absurd (none-some r g)
       by (Some m) (Some p) f g =
-          (ap (λ (x : RecordNow). x.place) (sym (same_Some (new_record (told_by m p number word t) t.place) r g)), slice_get_within nodes t.place p f)
+          (ap (λ (x : RecordNow). x.place) (sym (same_Some (new_record (told_by m p number word t) t.place (peer_type p.entity)) r g)), slice_get_within nodes t.place p f)
 
   or_true : (b : Bool) → b || true ≡ true
   or_true true = refl
@@ -165,7 +166,7 @@ module _ (nodes : List Node) (links : List Link) (number word : ℕ) (records : 
   pub record_over : (l : Link) (t : Towards) (mine peer : Node) → IsOneOf l links → other_of number l ≡ Some t → slice_get nodes number ≡ Some mine → slice_get nodes t.place ≡ Some peer →
       HasNamed (named_by mine number word t) records
   record_over l t mine peer one other m p =
-      let r = new_record (told_by mine peer number word t) t.place in
+      let r = new_record (told_by mine peer number word t) t.place (peer_type peer.entity) in
       let made : over nodes number word (other_of number l) ≡ Some r =
       ap (over nodes number word) other ∙ ap (λ o. new_towards o (slice_get nodes t.place) number word t) m ∙ ap (λ o. new_towards (Some mine) o number word t) p in
       found (named_by mine number word t) records (same.back (named_by mine number word t) (mapped_one named r (records_of nodes links number word) (one_over nodes number word l r links made one)))

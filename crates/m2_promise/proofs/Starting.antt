@@ -61,7 +61,7 @@ one_judge [] all = tt
 one_judge (r ∷ rs) all = (all_so_of IsUnused (JudgeApart r) rs (λ s u k h. absurd (never_asked r all.0 k h)) all.1, one_judge rs all.1)
 
 pub unused : NewRecordsAreUnused
-unused f place room is = record { is = is; journal = refl; trails = refl; ends = refl }
+unused f place peer room is = record { is = is; journal = refl; trails = refl; ends = refl }
 
 -- ---- a node
 

@@ -18,7 +18,8 @@ use Rattle.m2_script.specs.m2_record.IsRecord.{IsRecord, new_record}
 use Rattle.m2_script.specs.m2_record.RecordNow.{RecordNow, Rooms}
 use Rattle.m2_promise.specs.Running.{HaveOrders, HoldsAll, IsNodeAt, IsRecordAt, IsRunning, NodeActs, RunNow}
 use Rattle.m2_dispatch.specs.m2_shared.Numbers.{SeenNumberPass}
-use Rattle.m2_dispatch.specs.m2_shared.Throttle.{SeenTakePass}
+use Rattle.m2_dispatch.specs.m2_shared.declared.peer_type.PeerType.{PeerType}
+use Rattle.m2_dispatch.specs.m2_shared.declared.throttles.TakePasses.{TakePasses}
 use Rattle.m2_fabric.specs.InStep.{SeenFabric}
 use Rattle.m2_fabric.specs.SimFabric.{AreApart, fresh_fabric}
 use Rattle.m2_promise.specs.Acting.{run_of}
@@ -35,13 +36,13 @@ abbrev pub BeginningsHaveOrders : Type 0
 BeginningsHaveOrders = (x : RunNow) → IsBeginning x → HaveOrders x
 
 abbrev pub NewRecordsAreUnused : Type 0
-NewRecordsAreUnused = (f : SideFacts) (place : ℕ) (room : Rooms) → IsRecord (record (new_record f place) { room = room }) → IsUnused (record (new_record f place) { room = room })
+NewRecordsAreUnused = (f : SideFacts) (place : ℕ) (peer : PeerType) (room : Rooms) → IsRecord (record (new_record f place peer) { room = room }) → IsUnused (record (new_record f place peer) { room = room })
 
 -- ---- a cluster
 
 -- A center that is new has a new port in memory, with any cuts, and new records, each between its node and another.
 abbrev pub NewCentersAreNew : Type 0 → Type 0
-NewCentersAreNew D = (addrs : List Addr) (i : ℕ) (entity : ℕ) (at : Addr) (cuts : List Cut) (records : List RecordNow) (fast queued : D) (bytes : SeenTakePass) (numbers : SeenNumberPass) →
+NewCentersAreNew D = (addrs : List Addr) (i : ℕ) (entity : ℕ) (at : Addr) (cuts : List Cut) (records : List RecordNow) (fast queued : D) (bytes : TakePasses) (numbers : SeenNumberPass) →
     slice_get addrs i ≡ Some at → AllByRecursion IsUnused records → AllByRecursion (IsRecordAt addrs i) records → CanBegin entity (fresh_cut_port at cuts) records bytes numbers →
     IsNewAt addrs i (holding_of (new_center entity (fresh_cut_port at cuts) records fast queued bytes numbers))
 

@@ -4,7 +4,8 @@ use Rattle.std.specs.List.{AllByRecursion}
 use Rattle.std.proofs.Common.{◌≡◌, ℕ, ◌≤◌, ◌&&◌, ◌||◌, not, if◌then◌else◌, Bool, true, false, List, [], ◌++◌, Option, Some, None, Result, Ok, Err, refl, sym, ap, subst, ◌∙◌, arith, IfSome}
 use Rattle.std.proofs.lemmas.List.{append-nil}
 use Rattle.m2_bytes.specs.declared.memory.NoMemory as memory
-use Rattle.m2_core.specs.LiveNow.{IsOwned as IsOwnedGrant, LiveNow, OnFeedNow}
+use Rattle.m2_core.specs.LiveNow.{LiveNow, OnFeedNow}
+use Rattle.m2_shared.specs.Gates.{AreHeld, Places}
 use Rattle.m2_core.specs.OnFeed.{AnswersStamp, ChangesRoom, ComposesFeed, GreetsFeed, ReadsFeed, WritesFeed}
 use Rattle.m2_core.specs.LiveCalls.{live_with}
 use Rattle.m2_core.specs.LiveHearing.{raised_by}
@@ -330,8 +331,8 @@ framed-nothing t (framed.Acked number) now old new g a = absurd (false_isnt_true
 framed-nothing t (framed.Accepted number) now old new g a = absurd (false_isnt_true (ap is-memory a))
 framed-nothing t (framed.Obeyed full) now old new g a = absurd (false_isnt_true (ap is-memory a))
 framed-nothing t (framed.Faulted cause) now old new g a = absurd (false_isnt_true (ap is-memory a))
-framed-nothing t (framed.Full held) now old new g a = absurd (false_isnt_true (ap is-memory a))
-framed-nothing t (framed.Again seen at) now old new g a = absurd (false_isnt_true (ap is-memory a))
+framed-nothing t (framed.Full stage held) now old new g a = absurd (false_isnt_true (ap is-memory a))
+framed-nothing t (framed.Again stage seen at) now old new g a = absurd (false_isnt_true (ap is-memory a))
 
 -- ---- the step
 
@@ -340,8 +341,8 @@ for-memory stepped.NoMemory P h = h refl
 for-memory stepped.Moved P h = tt
 for-memory (stepped.Hand x) P h = tt
 for-memory stepped.Dry P h = tt
-for-memory (stepped.Full held) P h = tt
-for-memory (stepped.Again seen now) P h = tt
+for-memory (stepped.Full stage held) P h = tt
+for-memory (stepped.Again stage seen now) P h = tt
 for-memory stepped.Spent P h = tt
 for-memory (stepped.Faulted cause) P h = tt
 
@@ -456,9 +457,9 @@ module _ (old new : RecordNow) where
   pub composed-top : (c : Composed) (place : Place) (before behind : SeenNumberPass) → is_some (to_compose old.core) ≡ true → IfSome (to_compose old.core) (λ t. ComposesAs t c old new) → DrawsAs c place before behind → old.core.top ≤ before.least → old.core.top ≤ GREATEST_NUMBER → new.core.top ≤ behind.least
   composed-top c place before behind some x p h g = of-text (to_compose old.core) c (new.core.top ≤ behind.least) some x (λ t y. text-top t c place before behind y p h g)
 
-  pub composed-owned : (place : Place) (c : Composed) → is_some (to_compose old.core) ≡ true → IfSome (to_compose old.core) (λ t. ComposesAs t c old new) → Owns place old → Owns place new
+  pub composed-owned : (place : Places) (c : Composed) → is_some (to_compose old.core) ≡ true → IfSome (to_compose old.core) (λ t. ComposesAs t c old new) → Owns place old → Owns place new
   composed-owned place c some x h = of-text (to_compose old.core) c (Owns place new) some x (λ t y. let z = text-holds t c y in record {
-    feed = subst (IsOwnedGrant place) (sym z.0) h.feed;
+    feed = subst (AreHeld place) (sym z.0) h.feed;
     parcels = subst (AllByRecursion (IsOwned place)) (sym z.1) h.parcels;
   })
 
@@ -466,9 +467,9 @@ module _ (old new : RecordNow) where
 
 front-top : (t : Throttled) (a : CoreNext) (h : FrontHeard) (b c : CoreNow) → IsNext t a h b c → c.top ≡ b.top
 front-top t next.Rests rests b c x = ap (λ (z : CoreNow). z.top) x
-front-top t next.Granted (asks n) b c x = ap (λ (z : CoreNow). z.top) x.1.only
-front-top t (next.Full held) (asks n) b c x = ap (λ (z : CoreNow). z.top) x.1
-front-top t (next.Again seen now) (asks n) b c x = ap (λ (z : CoreNow). z.top) x.1
+front-top t next.Granted (asks n) b c x = ap (λ (z : CoreNow). z.top) x.only
+front-top t (next.Full stage held) (asks n) b c x = ap (λ (z : CoreNow). z.top) x.only
+front-top t (next.Again stage seen now) (asks n) b c x = ap (λ (z : CoreNow). z.top) x.only
 front-top t next.Passed (tells frame.Nothing) b c x = ap (λ (z : CoreNow). z.top) x.only
 front-top t next.Passed (tells (frame.Stamp k)) b c x = ap (λ (z : CoreNow). z.top) x.only
 front-top t next.NoMemory (tells (frame.Stamp k)) b c x = ap (λ (z : CoreNow). z.top) x
@@ -504,6 +505,6 @@ framed-top t (framed.Acked number) now old new x = answers-top t (next.Acked num
 framed-top t (framed.Accepted number) now old new x = answers-top t (next.Accepted x.0) old.core new.core x.2
 framed-top t (framed.Obeyed full) now old new x = ap (λ (z : CoreNow). z.top) x.2.0.only ∙ answers-top t (next.Resets full) old.core x.0.core x.1.0
 framed-top t (framed.Faulted cause) now old new x = answers-top t (next.Fault cause) old.core new.core x.0
-framed-top t (framed.Full out) now old new x = answers-top t (next.Full out) old.core new.core x.0
-framed-top t (framed.Again seen at) now old new x = answers-top t (next.Again seen at) old.core new.core x.0
+framed-top t (framed.Full stage out) now old new x = answers-top t (next.Full stage out) old.core new.core x.0
+framed-top t (framed.Again stage seen at) now old new x = answers-top t (next.Again stage seen at) old.core new.core x.0
 framed-top t framed.NoMemory now old new x = answers-top t next.NoMemory old.core new.core x.0

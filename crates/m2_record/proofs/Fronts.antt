@@ -10,7 +10,10 @@ use Rattle.m2_core.specs.Accepting.{Accepts}
 use Rattle.m2_core.specs.Agrees.{Stays}
 use Rattle.m2_core.specs.CoreNow.{CoreNow}
 use Rattle.m2_core.specs.Front.{FrontHeard, asks, before_front, front_in, front_of, heard_by, hearer_of, rests, resumption_at, tells}
-use Rattle.m2_core.specs.Granting.{Grants, Throttled}
+use Rattle.m2_core.specs.Granting.{HasAsked, Throttled}
+use Rattle.m2_shared.specs.declared.more.More.{More}
+use Rattle.m2_shared.specs.declared.more.More.TheVariants as more
+use Rattle.m2_shared.specs.declared.stage.Stage.{Stage}
 use Rattle.m2_core.specs.Next.{Closes, Counts, IsNext, IsResetHeard}
 use Rattle.m2_core.specs.Passing.{HasPassed, HasStamped, StampsFeed}
 use Rattle.m2_handshake.specs.m2_control.declared.keepalive.Keepalive.{Keepalive}
@@ -22,7 +25,6 @@ use Rattle.m2_feed.specs.declared.frame_heard.FrameHeard.TheVariants as heard
 use Rattle.m2_feed.specs.declared.hearer.Hearer.{Hearer}
 use Rattle.m2_session.specs.declared.session.Phase.TheVariants.{Ready}
 use Rattle.m2_session.specs.Phases as phase
-use Rattle.m2_shared.specs.Throttle.{SeenThrottle}
 use Rattle.m2_record.specs.Due.{has_frame, is_start}
 use Rattle.m2_record.specs.Due as due
 use Rattle.m2_record.specs.Framing.{AnswersFront, IsDone}
@@ -79,10 +81,32 @@ stamps k b c h = record {
   stays = h.stays;
 }
 
-grants : (t : SeenThrottle) (n : ℕ) (b c : CoreNow) → Grants t n b c → MakesNone b c
+grants : (t : Throttled) (n : ℕ) (b c : CoreNow) → HasAsked more.Whole t n b c → MakesNone b c
 grants t n b c h = record {
   facts = ap (λ (z : CoreNow). z.facts) h.only;
   end = subst (λ (z : CoreNow). SameEnd b.live.feed z.live.feed) (sym h.only) (end-granted b.live.feed);
+  queue = ap (λ (z : CoreNow). z.live.out) h.only;
+  top = ap (λ (z : CoreNow). z.top) h.only;
+  stays = h.stays;
+}
+
+end-same : (x : Option FeedNow) → SameEnd x x
+end-same (Some v) = refl
+end-same None = tt
+
+waits-full : (t : Throttled) (n : ℕ) (stage : Stage) (out : ℕ) (b c : CoreNow) → HasAsked (more.Full stage out) t n b c → MakesNone b c
+waits-full t n stage out b c h = record {
+  facts = ap (λ (z : CoreNow). z.facts) h.only;
+  end = subst (λ (z : CoreNow). SameEnd b.live.feed z.live.feed) (sym h.only) (end-same b.live.feed);
+  queue = ap (λ (z : CoreNow). z.live.out) h.only;
+  top = ap (λ (z : CoreNow). z.top) h.only;
+  stays = h.stays;
+}
+
+waits-again : (t : Throttled) (n : ℕ) (stage : Stage) (seen now : ℕ) (b c : CoreNow) → HasAsked (more.Again stage seen now) t n b c → MakesNone b c
+waits-again t n stage seen now b c h = record {
+  facts = ap (λ (z : CoreNow). z.facts) h.only;
+  end = subst (λ (z : CoreNow). SameEnd b.live.feed z.live.feed) (sym h.only) (end-same b.live.feed);
   queue = ap (λ (z : CoreNow). z.live.out) h.only;
   top = ap (λ (z : CoreNow). z.top) h.only;
   stays = h.stays;
@@ -102,16 +126,16 @@ module _ (t : Throttled) (b c : CoreNow) where
   passed-says _ h = absurd h
 
   granted-says : (x : FrontHeard) → IsNext t next.Granted x b c → MakesNone b c
-  granted-says (asks n) h = grants t.throttle n b c h.1
+  granted-says (asks n) h = grants t n b c h
   granted-says _ h = absurd h
 
-  full-says : (out : ℕ) (x : FrontHeard) → IsNext t (next.Full out) x b c → c ≡ b
-  full-says out (asks n) h = h.1
-  full-says out _ h = absurd h
+  full-says : (stage : Stage) (out : ℕ) (x : FrontHeard) → IsNext t (next.Full stage out) x b c → MakesNone b c
+  full-says stage out (asks n) h = waits-full t n stage out b c h
+  full-says stage out _ h = absurd h
 
-  again-says : (seen now : ℕ) (x : FrontHeard) → IsNext t (next.Again seen now) x b c → c ≡ b
-  again-says seen now (asks n) h = h.1
-  again-says seen now _ h = absurd h
+  again-says : (stage : Stage) (seen now : ℕ) (x : FrontHeard) → IsNext t (next.Again stage seen now) x b c → MakesNone b c
+  again-says stage seen now (asks n) h = waits-again t n stage seen now b c h
+  again-says stage seen now _ h = absurd h
 
   memory-says : (x : FrontHeard) → IsNext t next.NoMemory x b c → c ≡ b
   memory-says (tells (heard.Stamp k)) h = h
@@ -153,11 +177,11 @@ module _ (t : Throttled) (b c : CoreNow) where
   pub granted-so : AnswersFront t next.Granted b c → MakesNone b c
   granted-so h = on-front b.live.feed (λ v. granted-says (heard_by b v.reading)) h
 
-  pub full-so : (out : ℕ) → AnswersFront t (next.Full out) b c → c ≡ b
-  full-so out h = on-front b.live.feed (λ v. full-says out (heard_by b v.reading)) h
+  pub full-so : (stage : Stage) (out : ℕ) → AnswersFront t (next.Full stage out) b c → MakesNone b c
+  full-so stage out h = on-front b.live.feed (λ v. full-says stage out (heard_by b v.reading)) h
 
-  pub again-so : (seen now : ℕ) → AnswersFront t (next.Again seen now) b c → c ≡ b
-  again-so seen now h = on-front b.live.feed (λ v. again-says seen now (heard_by b v.reading)) h
+  pub again-so : (stage : Stage) (seen now : ℕ) → AnswersFront t (next.Again stage seen now) b c → MakesNone b c
+  again-so stage seen now h = on-front b.live.feed (λ v. again-says stage seen now (heard_by b v.reading)) h
 
   pub memory-so : AnswersFront t next.NoMemory b c → c ≡ b
   memory-so h = on-front b.live.feed (λ v. memory-says (heard_by b v.reading)) h
@@ -182,8 +206,8 @@ module _ (t : Throttled) (b c : CoreNow) where
   top-so (next.Acked number) h = ap (λ (z : CoreNow). z.top) (acked-so number h).only
   top-so (next.Accepted a) h = ap (λ (z : CoreNow). z.top) (accepted-so a h).only
   top-so (next.Resets full) h = ap (λ (z : CoreNow). z.top) (reset-so full h).0
-  top-so (next.Full out) h = ap (λ (z : CoreNow). z.top) (full-so out h)
-  top-so (next.Again seen now) h = ap (λ (z : CoreNow). z.top) (again-so seen now h)
+  top-so (next.Full stage out) h = (full-so stage out h).top
+  top-so (next.Again stage seen now) h = (again-so stage seen now h).top
   top-so (next.Fault cause) h = ap (λ (z : CoreNow). z.top) (fault-so cause h).only
   top-so next.NoMemory h = ap (λ (z : CoreNow). z.top) (memory-so h)
 
@@ -237,7 +261,7 @@ is-done t r c next.Granted frame signed h = tt
 is-done t r c (next.Acked number) frame signed h = tt
 is-done t r c (next.Accepted a) frame signed h = tt
 is-done t r c (next.Resets full) frame signed h = tt
-is-done t r c (next.Full out) frame signed h = tt
-is-done t r c (next.Again seen now) frame signed h = tt
+is-done t r c (next.Full stage out) frame signed h = tt
+is-done t r c (next.Again stage seen now) frame signed h = tt
 is-done t r c (next.Fault cause) frame signed h = tt
 is-done t r c next.NoMemory frame signed h = tt

@@ -14,7 +14,7 @@ use Rattle.m2_handshake.specs.declared.answer.HalfStep.TheVariants as half
 use Rattle.m2_feed.specs.declared.wire_fault.WireFault.{WireFault}
 use Rattle.m2_feed.specs.declared.heard.Heard.{Heard}
 use Rattle.m2_feed.specs.declared.heard.Heard.TheVariants as heard
-use Rattle.m2_shared.specs.Place.{Place}
+use Rattle.m2_shared.specs.Gates.{Places}
 use Rattle.m2_record.specs.declared.composing.Composed.{Composed}
 use Rattle.m2_record.specs.declared.composing.Composed.TheVariants as composed
 use Rattle.m2_record.specs.declared.due.Due.{Due}
@@ -65,8 +65,8 @@ framing (framed.Acked number) = refl
 framing (framed.Accepted number) = refl
 framing (framed.Obeyed full) = refl
 framing (framed.Faulted cause) = refl
-framing (framed.Full held) = refl
-framing (framed.Again seen now) = refl
+framing (framed.Full stage held) = refl
+framing (framed.Again stage seen now) = refl
 framing framed.NoMemory = refl
 
 composing : (answer : Composed) → is_hand (answer_composed answer) ≡ false
@@ -99,31 +99,31 @@ faulting None answer h = h
 
 -- ---- what is handed out is owned
 
-not_hand : (place : Place) (answer other : Stepped) → answer ≡ other → is_hand other ≡ false → IsHandedOwned place answer
+not_hand : (place : Places) (answer other : Stepped) → answer ≡ other → is_hand other ≡ false → IsHandedOwned place answer
 unfolding is_hand
 not_hand place (stepped.Hand x) other e h = absurd (false_isnt_true (sym h ∙ ap is_hand (sym e)))
 not_hand place stepped.Moved other e h = tt
 not_hand place stepped.Dry other e h = tt
-not_hand place (stepped.Full held) other e h = tt
-not_hand place (stepped.Again seen now) other e h = tt
+not_hand place (stepped.Full stage held) other e h = tt
+not_hand place (stepped.Again stage seen now) other e h = tt
 not_hand place stepped.Spent other e h = tt
 not_hand place (stepped.Faulted cause) other e h = tt
 not_hand place stepped.NoMemory other e h = tt
 
-first_owned : (place : Place) (x : Parcel) (old rest : List Parcel) → old ≡ x ∷ rest → AllByRecursion (IsOwned place) old → IsOwned place x
+first_owned : (place : Places) (x : Parcel) (old rest : List Parcel) → old ≡ x ∷ rest → AllByRecursion (IsOwned place) old → IsOwned place x
 first_owned place x old rest e h = (subst (AllByRecursion (IsOwned place)) e h).0
 
-handing : (place : Place) (answer : Stepped) (mid new : RecordNow) → Owns place mid → HandsAs answer mid new → IsHandedOwned place answer
+handing : (place : Places) (answer : Stepped) (mid new : RecordNow) → Owns place mid → HandsAs answer mid new → IsHandedOwned place answer
 handing place (stepped.Hand x) mid new h k = first_owned place x mid.parcels new.parcels k.0 h.parcels
 handing place stepped.Moved mid new h k = tt
 handing place stepped.Dry mid new h k = tt
-handing place (stepped.Full held) mid new h k = tt
-handing place (stepped.Again seen now) mid new h k = tt
+handing place (stepped.Full stage held) mid new h k = tt
+handing place (stepped.Again stage seen now) mid new h k = tt
 handing place stepped.Spent mid new h k = tt
 handing place (stepped.Faulted cause) mid new h k = tt
 handing place stepped.NoMemory mid new h k = tt
 
-by_due : (d : Due) (place : Place) (w : Worked) (mid new : RecordNow) → Owns place mid → StepsBy d w mid new → IsHandedOwned place w.answer
+by_due : (d : Due) (place : Places) (w : Worked) (mid new : RecordNow) → Owns place mid → StepsBy d w mid new → IsHandedOwned place w.answer
 unfolding is_hand
 by_due due.Nothing place w mid new h k = not_hand place w.answer stepped.Dry k.answers refl
 by_due due.Plan place w mid new h k = not_hand place w.answer (answer_planned k.taken) k.answers (planned k.taken)
@@ -134,9 +134,9 @@ by_due due.Frame place w mid new h k = not_hand place w.answer (answer_framed k.
 by_due due.Read place w mid new h k = not_hand place w.answer (answer_read k.read) k.answers (faulting (fault_read k.read) _ (reading k.read.answer k.read.heard))
 by_due due.Compose place w mid new h k = not_hand place w.answer (answer_composed k.composed) k.answers (composing k.composed)
 
-owned_room : (place : Place) (old mid : RecordNow) → IsSameButRoom old mid → Owns place old → Owns place mid
+owned_room : (place : Places) (old mid : RecordNow) → IsSameButRoom old mid → Owns place old → Owns place mid
 owned_room place old mid e h = subst (Owns place) (sym e) (record { feed = h.feed; parcels = h.parcels })
 
 -- what the step that is due hands out is owned by the place that owns what the record holds
-pub handed_owned : (place : Place) (w : Worked) (old mid new : RecordNow) → IsSameButRoom old mid → Owns place old → TakesDue w mid new → IsHandedOwned place w.answer
+pub handed_owned : (place : Places) (w : Worked) (old mid new : RecordNow) → IsSameButRoom old mid → Owns place old → TakesDue w mid new → IsHandedOwned place w.answer
 handed_owned place w old mid new e h k = by_due (due_step w.now mid) place w mid new (owned_room place old mid e h) k

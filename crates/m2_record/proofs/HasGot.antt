@@ -77,7 +77,7 @@ use Rattle.m2_record.proofs.Standing.{SameEnd, same-feed_end, same-held, same-op
 use Rattle.m2_record.proofs.Telling.{Beside, beside, feed_left}
 use Rattle.m2_record.proofs.Trailing as trailing
 use Rattle.m2_record.proofs.Trailing.{LogGoesOn, closed-behind, ends-go-on, first-goes-on, first-here, prefix-same, runs-more, trail-there, trails-go-on, trails-more, unread-stays}
-use Rattle.m2_shared.specs.Place.{Place}
+use Rattle.m2_shared.specs.Gates.{AreHeld, Places}
 use Rattle.m2_bytes.proofs.m2_lemmas.Booleans.{or_right, false_isnt_true}
 use Rattle.m2_fabric.proofs.Sockets.{same_refl}
 
@@ -181,8 +181,8 @@ module _ (P : LiveNow → Type 0) (told : (e : Event) (l : LiveNow) → P l → 
 heard-fits : (o : Option Heard) (l new : LiveNow) → Heeds o l new → FitFrames l.out.queue → FitFrames new.out.queue
 heard-fits o l new w h = heeded (λ (z : LiveNow). FitFrames z.out.queue) tells-fits (λ x n z p. p) o l new w h
 
-heard-owned : (place : Place) (o : Option Heard) (l new : LiveNow) → Heeds o l new → live.IsOwned place l.granted → live.IsOwned place new.granted
-heard-owned place o l new w h = heeded (λ (z : LiveNow). live.IsOwned place z.granted) (λ e z p. tells-owned e place z p) (λ x n z p. p) o l new w h
+heard-owned : (place : Places) (o : Option Heard) (l new : LiveNow) → Heeds o l new → AreHeld place l.granted → AreHeld place new.granted
+heard-owned place o l new w h = heeded (λ (z : LiveNow). AreHeld place z.granted) (λ e z p. tells-owned e place z p) (λ x n z p. p) o l new w h
 
 -- ---- what it leaves of the ends
 
@@ -641,7 +641,7 @@ read-counts x b c noted old new w room more keeps = at x.heard w.closes
 
 -- ---- what is held
 
-pub owned-read : (place : Place) (x : ReadNow) (r new : RecordNow) → HasRead x r.core new.core → new.parcels ≡ r.parcels → Owns place r → Owns place new
+pub owned-read : (place : Places) (x : ReadNow) (r new : RecordNow) → HasRead x r.core new.core → new.parcels ≡ r.parcels → Owns place r → Owns place new
 owned-read place x r new w p h = record {
   feed = heard-owned place x.heard (live_with w.feed r.core.live) new.core.live w.heeds h.feed;
   parcels = subst (AllByRecursion (IsOwned place)) (sym p) h.parcels;

@@ -20,7 +20,7 @@ use Rattle.m2_core.specs.Agrees.{FeedsAgree, IsTold}
 use Rattle.m2_core.specs.Front.{hearer_of, resumption_at, resumption_of}
 use Rattle.m2_core.specs.Granting.{Throttled}
 use Rattle.m2_core.specs.Hearing.{HasObeyed}
-use Rattle.m2_core.specs.Next.{Closes, Counts, IsResetHeard, effects_next, word_next}
+use Rattle.m2_core.specs.Next.{Closes, Counts, IsResetHeard, WordsNext, effects_next}
 use Rattle.m2_core.specs.declared.accepting.CoreAccepted.{CoreAccepted}
 use Rattle.m2_core.specs.declared.next.CoreNext.{CoreNext}
 use Rattle.m2_core.specs.declared.next.CoreNext.TheVariants as next
@@ -49,14 +49,14 @@ use Rattle.m2_session.specs.declared.event.Event.TheVariants as event
 use Rattle.m2_session.specs.declared.session.Session.{Session}
 use Rattle.m2_session.specs.Table.{first_that_holds}
 use Rattle.m2_session.specs.Steps.{step_of}
-use Rattle.m2_shared.specs.Place.{Place}
+use Rattle.m2_shared.specs.Gates.{AreHeld, Gate, Places}
 use Rattle.m2_record.specs.Calls.{Breaks, BytesAreBroken, ChangesCore, FitsClosed, GetsEntries, HasRoomFor, IsSameButRoom, Owns, Shakes, closed_entries, told_parcels}
 use Rattle.m2_record.specs.declared.due.Due.{Due}
 use Rattle.m2_record.specs.declared.due.Due.TheVariants as due
 use Rattle.m2_record.specs.declared.framing.Framed.{Framed}
 use Rattle.m2_record.specs.declared.framing.Framed.TheVariants as framed
 use Rattle.m2_record.specs.Due.{due_step, feed_rows, has_frame, has_parcel, has_plan, may_compose, may_connect, may_read, may_write, on_feed, rests}
-use Rattle.m2_record.specs.Framing.{AnswersFront, Frames, Heeds, IsDone, IsResetIf, Obeys, entries_next, framed_next, is_faulted, is_signed, letter_of, moment_next, parcels_next, reset_in, word_framed}
+use Rattle.m2_record.specs.Framing.{AnswersFront, Frames, Heeds, IsDone, IsResetIf, Obeys, entries_next, framed_next, is_faulted, is_signed, letter_of, moment_next, parcels_next, reset_in, WordsFramed}
 use Rattle.m2_record.specs.IsRecord.{FeedHasRoom, FitFrames, IsRecord}
 use Rattle.m2_record.specs.RecordNow.{RecordNow, Rooms}
 use Rattle.m2_record.proofs.Broken.{Cause, HasBroken, broken-on, waits-as}
@@ -113,7 +113,7 @@ accepts r c room a now journal parcels h ends x j p = rw (j, p)
     (subst (λ (z : CoreNow). FitFrames z.live.out.queue) (sym x.only) h.kept.queue)
     tt tt refl refl refl refl refl x.may x.leads
     (λ s k. accepted-beside r.core.facts a.number a.key s s.feed ∙ ap (λ (l : List Delivery). record (beside s) { deliveries = l }) (x.hands_out s k))
-    ((refl, x.size), tt))
+    ((refl, x.whole, x.size), tt))
 
 -- ---- a reset
 
@@ -144,8 +144,8 @@ module _ (full : Bool) (r : RecordNow) (c : CoreNow) (x : HasObeyed full r.core 
       feed = ap (λ (l : LiveNow). l.feed) x.obeys.live ∙ tells-feed (event.GotReset full) (live_with x.obeys.passed r.core.live)
           ∙ ap (λ b. feed_left b x.obeys.passed) (reset-keeps full r.core.live.session)
 
-  obeyed-owned : (place : Place) → live.IsOwned place r.core.live.granted → live.IsOwned place c.live.granted
-  obeyed-owned place h = subst (λ (l : LiveNow). live.IsOwned place l.granted) (sym x.obeys.live) (tells-owned (event.GotReset full) place (live_with x.obeys.passed r.core.live) h)
+  obeyed-owned : (place : Places) → AreHeld place r.core.live.granted → AreHeld place c.live.granted
+  obeyed-owned place h = subst (λ (l : LiveNow). AreHeld place l.granted) (sym x.obeys.live) (tells-owned (event.GotReset full) place (live_with x.obeys.passed r.core.live) h)
 
   obeys-told : (room : Rooms) → IsRecord r → room.ends ≡ r.room.ends →
       IsRecord (record r { core = c; journal = r.journal ++ entry.Obeyed full ∷ []; parcels = r.parcels ++ told_parcels r.place full full; room = room })
@@ -178,10 +178,10 @@ module _ {r : RecordNow} (h : IsRecord r) (c : CoreNow) where
       subst (λ (o : RecordNow). Obeys full o (record r { core = c; journal = journal.items; parcels = parcels; room = room })) e
       (x, rw (ap (λ (l : Holding Entry). l.items) j, p, reset-told full r.core.live.session r.core.live.feed closed discarded reset r.place a) refl)
 
-  pub obeyed-owns : (full : Bool) → HasObeyed full r.core c → (discarded reset : Bool) (place : Place) (old new : RecordNow) → r ≡ old → Owns place old → new.core.live.granted ≡ c.live.granted →
+  pub obeyed-owns : (full : Bool) → HasObeyed full r.core c → (discarded reset : Bool) (place : Places) (old new : RecordNow) → r ≡ old → Owns place old → new.core.live.granted ≡ c.live.granted →
       new.parcels ≡ r.parcels ++ told_parcels r.place discarded reset → Owns place new
   obeyed-owns full x discarded reset place old new e o g p = record {
-    feed = subst (live.IsOwned place) (sym g) (obeyed-owned full r c x place (subst (Owns place) (sym e) o).feed);
+    feed = subst (AreHeld place) (sym g) (obeyed-owned full r c x place (subst (Owns place) (sym e) o).feed);
     parcels = subst (AllByRecursion (IsOwned place)) (sym p) (all_append (IsOwned place) r.parcels (told_parcels r.place discarded reset) (subst (Owns place) (sym e) o).parcels (told-all place r.place discarded reset));
   }
 
@@ -220,8 +220,8 @@ module _ (t : Throttled) (r : RecordNow) (c : CoreNow) (now : ℕ) (room : Rooms
       (counts r c room number (r.journal ++ entry.Acked number ∷ []) k ends (acked-so t r.core c number h) refl)
   noted-plain (next.Accepted a) h f ends k = accepts r c room a now (r.journal ++ entry.Accepted a.number a.key ∷ []) (r.parcels ++ letter_of r.place a ∷ []) k ends (accepted-so t r.core c a h) refl refl
   noted-plain (next.Resets full) h f ends k = plain r c room (none-made r c room k ends (same r.core c (reset-so t r.core c full h).0))
-  noted-plain (next.Full out) h f ends k = plain r c room (none-made r c room k ends (same r.core c (full-so t r.core c out h)))
-  noted-plain (next.Again seen at) h f ends k = plain r c room (none-made r c room k ends (same r.core c (again-so t r.core c seen at h)))
+  noted-plain (next.Full stage out) h f ends k = plain r c room (none-made r c room k ends (full-so t r.core c stage out h))
+  noted-plain (next.Again stage seen at) h f ends k = plain r c room (none-made r c room k ends (again-so t r.core c stage seen at h))
   noted-plain (next.Fault cause) h f ends k = absurd (false_isnt_true (sym f))
   noted-plain next.NoMemory h f ends k = plain r c room (none-made r c room k ends (same r.core c (memory-so t r.core c h)))
 
@@ -244,8 +244,8 @@ module _ (t : Throttled) (r : RecordNow) (c : CoreNow) (now : ℕ) (room : Rooms
   heeds-plain (next.Acked number) d h f = (h, subst (λ (l : List Parcel). GetsEntries (entry.Acked number ∷ []) r (record r { core = c; journal = r.journal ++ entry.Acked number ∷ []; parcels = l; room = room })) (sym (append-nil r.parcels)) refl)
   heeds-plain (next.Accepted a) d h f = (a, refl, h, refl)
   heeds-plain (next.Resets full) d h f = (h, left-all (reset-so t r.core c full h).0)
-  heeds-plain (next.Full out) d h f = (h, left-all (full-so t r.core c out h))
-  heeds-plain (next.Again seen at) d h f = (h, left-all (again-so t r.core c seen at h))
+  heeds-plain (next.Full stage out) d h f = (h, left-core)
+  heeds-plain (next.Again stage seen at) d h f = (h, left-core)
   heeds-plain (next.Fault cause) d h f = absurd (false_isnt_true (sym f))
   heeds-plain next.NoMemory d h f = (h, left-all (memory-so t r.core c h))
 
@@ -255,21 +255,21 @@ module _ (t : Throttled) (r : RecordNow) (c : CoreNow) (now : ℕ) (room : Rooms
 
 module _ (t : Throttled) (r : RecordNow) (c : CoreNow) where
   -- what it leaves is owned
-  owned-plain : (place : Place) (x : CoreNext) → Owns place r → live.IsOwned place c.live.granted → AnswersFront t x r.core c → AllByRecursion (IsOwned place) (r.parcels ++ parcels_next r.place x)
-  owned-plain place (next.Accepted a) o g h = all_append (IsOwned place) r.parcels (letter_of r.place a ∷ []) o.parcels (subst (live.IsOwned place) (accepted-so t r.core c a h).grant o.feed, tt)
+  owned-plain : (place : Places) (x : CoreNext) → Owns place r → AreHeld place c.live.granted → AnswersFront t x r.core c → AllByRecursion (IsOwned place) (r.parcels ++ parcels_next r.place x)
+  owned-plain place (next.Accepted a) o g h = all_append (IsOwned place) r.parcels (letter_of r.place a ∷ []) o.parcels (subst (AreHeld place) (accepted-so t r.core c a h).grants o.feed, tt)
   owned-plain place next.Rests o g h = all_append (IsOwned place) r.parcels [] o.parcels tt
   owned-plain place next.Passed o g h = all_append (IsOwned place) r.parcels [] o.parcels tt
   owned-plain place next.Granted o g h = all_append (IsOwned place) r.parcels [] o.parcels tt
   owned-plain place (next.Acked number) o g h = all_append (IsOwned place) r.parcels [] o.parcels tt
   owned-plain place (next.Resets full) o g h = all_append (IsOwned place) r.parcels [] o.parcels tt
-  owned-plain place (next.Full out) o g h = all_append (IsOwned place) r.parcels [] o.parcels tt
-  owned-plain place (next.Again seen at) o g h = all_append (IsOwned place) r.parcels [] o.parcels tt
+  owned-plain place (next.Full stage out) o g h = all_append (IsOwned place) r.parcels [] o.parcels tt
+  owned-plain place (next.Again stage seen at) o g h = all_append (IsOwned place) r.parcels [] o.parcels tt
   owned-plain place (next.Fault cause) o g h = all_append (IsOwned place) r.parcels [] o.parcels tt
   owned-plain place next.NoMemory o g h = all_append (IsOwned place) r.parcels [] o.parcels tt
 
-  pub owned-noted : (place : Place) (x : CoreNext) (new : RecordNow) → Owns place r → live.IsOwned place c.live.granted → AnswersFront t x r.core c → new.core.live.granted ≡ c.live.granted →
+  pub owned-noted : (place : Places) (x : CoreNext) (new : RecordNow) → Owns place r → AreHeld place c.live.granted → AnswersFront t x r.core c → new.core.live.granted ≡ c.live.granted →
       new.parcels ≡ r.parcels ++ parcels_next r.place x → Owns place new
-  owned-noted place x new o g h e p = record { feed = subst (live.IsOwned place) (sym e) g; parcels = subst (AllByRecursion (IsOwned place)) (sym p) (owned-plain place x o g h) }
+  owned-noted place x new o g h e p = record { feed = subst (AreHeld place) (sym e) g; parcels = subst (AllByRecursion (IsOwned place)) (sym p) (owned-plain place x o g h) }
 
   -- a reset is heard still
   pub reset-if : (x : CoreNext) (new : RecordNow) → AnswersFront t x r.core c → new.core ≡ c → HasRoomFor 2 r.room → r.room.entries ≤ new.room.entries + length (entries_next x) → r.room.parcels ≤ new.room.parcels + length (parcels_next r.place x) →
@@ -286,22 +286,22 @@ module _ (t : Throttled) (r : RecordNow) (c : CoreNow) where
   reset-if next.Granted new h e two entries parcels = tt
   reset-if (next.Acked number) new h e two entries parcels = tt
   reset-if (next.Accepted a) new h e two entries parcels = tt
-  reset-if (next.Full out) new h e two entries parcels = tt
-  reset-if (next.Again seen at) new h e two entries parcels = tt
+  reset-if (next.Full stage out) new h e two entries parcels = tt
+  reset-if (next.Again stage seen at) new h e two entries parcels = tt
   reset-if (next.Fault cause) new h e two entries parcels = tt
   reset-if next.NoMemory new h e two entries parcels = tt
 
-pub word-same : (x : CoreNext) (word before behind : ℕ) → IsDone x → word_next x word before behind ≡ word_framed (framed_next x) word before behind
-word-same next.Rests word before behind d = absurd d
-word-same next.Passed word before behind d = refl
-word-same next.Granted word before behind d = refl
-word-same (next.Acked number) word before behind d = refl
-word-same (next.Accepted a) word before behind d = refl
-word-same (next.Resets full) word before behind d = refl
-word-same (next.Full out) word before behind d = refl
-word-same (next.Again seen at) word before behind d = refl
-word-same (next.Fault cause) word before behind d = refl
-word-same next.NoMemory word before behind d = refl
+pub words-same : (x : CoreNext) (t : Throttled) (before behind : Gate → ℕ) → IsDone x → WordsNext x t before behind → WordsFramed (framed_next x) t before behind
+words-same next.Rests t before behind d h = absurd d
+words-same next.Passed t before behind d h = h
+words-same next.Granted t before behind d h = h
+words-same (next.Acked number) t before behind d h = h
+words-same (next.Accepted a) t before behind d h = h
+words-same (next.Resets full) t before behind d h = h
+words-same (next.Full stage out) t before behind d h = h
+words-same (next.Again stage seen at) t before behind d h = h
+words-same (next.Fault cause) t before behind d h = h
+words-same next.NoMemory t before behind d h = h
 
 -- ---- where the feed is closed
 
@@ -314,8 +314,8 @@ faulted-notes next.Granted place f = absurd (false_isnt_true f)
 faulted-notes (next.Acked number) place f = absurd (false_isnt_true f)
 faulted-notes (next.Accepted a) place f = absurd (false_isnt_true f)
 faulted-notes (next.Resets full) place f = absurd (false_isnt_true f)
-faulted-notes (next.Full out) place f = absurd (false_isnt_true f)
-faulted-notes (next.Again seen at) place f = absurd (false_isnt_true f)
+faulted-notes (next.Full stage out) place f = absurd (false_isnt_true f)
+faulted-notes (next.Again stage seen at) place f = absurd (false_isnt_true f)
 faulted-notes next.NoMemory place f = absurd (false_isnt_true f)
 
 -- there is a cause
@@ -327,8 +327,8 @@ closed-so next.Granted f k = absurd (false_isnt_true f)
 closed-so (next.Acked number) f k = absurd (false_isnt_true f)
 closed-so (next.Accepted a) f k = absurd (false_isnt_true f)
 closed-so (next.Resets full) f k = absurd (false_isnt_true f)
-closed-so (next.Full out) f k = absurd (false_isnt_true f)
-closed-so (next.Again seen at) f k = absurd (false_isnt_true f)
+closed-so (next.Full stage out) f k = absurd (false_isnt_true f)
+closed-so (next.Again stage seen at) f k = absurd (false_isnt_true f)
 closed-so next.NoMemory f k = absurd (false_isnt_true f)
 
 -- what the code has made of a record then, behind what it noted
@@ -378,8 +378,8 @@ unreset t (framed.Acked number) now old new e h = h
 unreset t (framed.Accepted number) now old new e h = h
 unreset t (framed.Obeyed full) now old new e h = absurd (none_isnt_some full (sym e))
 unreset t (framed.Faulted cause) now old new e h = h
-unreset t (framed.Full out) now old new e h = h
-unreset t (framed.Again seen at) now old new e h = h
+unreset t (framed.Full stage out) now old new e h = h
+unreset t (framed.Again stage seen at) now old new e h = h
 unreset t framed.NoMemory now old new e h = h
 
 reset-is : (f : Framed) (full : Bool) → reset_in f ≡ Some full → f ≡ framed.Obeyed full
@@ -390,8 +390,8 @@ reset-is framed.Granted full e = absurd (none_isnt_some full e)
 reset-is (framed.Acked number) full e = absurd (none_isnt_some full e)
 reset-is (framed.Accepted number) full e = absurd (none_isnt_some full e)
 reset-is (framed.Faulted cause) full e = absurd (none_isnt_some full e)
-reset-is (framed.Full out) full e = absurd (none_isnt_some full e)
-reset-is (framed.Again seen at) full e = absurd (none_isnt_some full e)
+reset-is (framed.Full stage out) full e = absurd (none_isnt_some full e)
+reset-is (framed.Again stage seen at) full e = absurd (none_isnt_some full e)
 reset-is framed.NoMemory full e = absurd (none_isnt_some full e)
 
 pub reset-obeyed : (t : Throttled) (f : Framed) (full : Bool) (now : ℕ) (old mid new : RecordNow) → reset_in f ≡ Some full → Heeds t f now old mid → Obeys full mid new → Frames t f now old new
@@ -401,14 +401,14 @@ reset-obeyed t f full now old mid new e h o =
 pub may-obey : (f : Framed) (full : Bool) (r : RecordNow) → reset_in f ≡ Some full → IsResetIf f r → IsResetHeard full r.core × HasRoomFor 2 r.room
 may-obey f full r e h = subst (λ (g : Framed). IsResetIf g r) (reset-is f full e) h
 
-pub word-obeyed : (f : Framed) (full : Bool) (word before x y : ℕ) → reset_in f ≡ Some full → word_framed f word before x ≡ word_framed f word before y
-word-obeyed f full word before x y e = subst (λ (g : Framed). word_framed g word before x ≡ word_framed g word before y) (sym (reset-is f full e)) refl
+pub words-obeyed : (f : Framed) (full : Bool) (t : Throttled) (before x y : Gate → ℕ) → reset_in f ≡ Some full → WordsFramed f t before x → WordsFramed f t before y
+words-obeyed f full t before x y e = subst (λ (g : Framed). WordsFramed g t before x → WordsFramed g t before y) (sym (reset-is f full e)) (λ h. h)
 
 -- ---- an answer of the half
 
-pub shaken-owned : (place : Place) (answer : HalfStep) (old mid : RecordNow) → Shakes answer old mid → Owns place old → Owns place mid
+pub shaken-owned : (place : Places) (answer : HalfStep) (old mid : RecordNow) → Shakes answer old mid → Owns place old → Owns place mid
 shaken-owned place answer old mid h o = record {
-  feed = subst (live.IsOwned place) (sym (ap (λ (z : CoreNow). z.live.granted) h.0.only)) o.feed;
+  feed = subst (AreHeld place) (sym (ap (λ (z : CoreNow). z.live.granted) h.0.only)) o.feed;
   parcels = subst (AllByRecursion (IsOwned place)) (sym (ap (λ (z : RecordNow). z.parcels) h.1)) o.parcels;
 }
 
@@ -507,7 +507,7 @@ module _ (t : Throttled) (x : CoreNext) (f : Framed) (r : RecordNow) (c : CoreNo
       (heeds t r c now room x journal parcels last d k.answers (goes-on b) m))
 
 module _ (t : Throttled) (x : CoreNext) (f : Framed) (r : RecordNow) (c : CoreNow) (k : Came t x f r c) where
-  pub owned-left : (place : Place) (old new : RecordNow) → r ≡ old → Owns place old → live.IsOwned place c.live.granted → new.core.live.granted ≡ c.live.granted → new.parcels ≡ r.parcels ++ parcels_next r.place x → Owns place new
+  pub owned-left : (place : Places) (old new : RecordNow) → r ≡ old → Owns place old → AreHeld place c.live.granted → new.core.live.granted ≡ c.live.granted → new.parcels ≡ r.parcels ++ parcels_next r.place x → Owns place new
   owned-left place old new e o own g p = owned-noted t r c place x new (subst (Owns place) (sym e) o) own k.answers g p
 
   pub reset-left : (old new : RecordNow) → r ≡ old → new.core ≡ c → HasRoomFor 2 old.room → r.room.entries ≤ new.room.entries + length (entries_next x) → r.room.parcels ≤ new.room.parcels + length (parcels_next r.place x) → IsResetIf f new
@@ -522,12 +522,13 @@ no-reset framed.Passed r b = tt
 no-reset framed.Granted r b = tt
 no-reset (framed.Acked number) r b = tt
 no-reset (framed.Accepted number) r b = tt
-no-reset (framed.Full out) r b = tt
-no-reset (framed.Again seen at) r b = tt
+no-reset (framed.Full stage out) r b = tt
+no-reset (framed.Again stage seen at) r b = tt
 no-reset framed.NoMemory r b = tt
 
-pub word-so : (x : CoreNext) (f : Framed) (w word before b behind : ℕ) → IsDone x → f ≡ framed_next x → before ≡ b → w ≡ word_next x word before behind → w ≡ word_framed f word b behind
-word-so x f w word before b behind d e g h = h ∙ word-same x word before behind d ∙ rw (sym e, sym g) refl
+pub words-so : (x : CoreNext) (f : Framed) (t : Throttled) (before b behind : Gate → ℕ) → IsDone x → f ≡ framed_next x → before ≡ b → WordsNext x t before behind → WordsFramed f t b behind
+words-so x f t before b behind d e g h =
+    subst (λ (k : Framed). WordsFramed k t b behind) (sym e) (subst (λ (n : Gate → ℕ). WordsFramed (framed_next x) t n behind) g (words-same x t before behind d h))
 
 -- the tests of the code
 pub tested : (b : Bool) (f : Framed) (c : Bool) → b ≡ is_faulted f → b ≡ c → is_faulted f ≡ c
@@ -576,7 +577,7 @@ module _ {r : RecordNow} (h : IsRecord r) (t : Throttled) (x : CoreNext) (f : Fr
       (subst (λ (g : Framed). Heeds t g now r (record r { core = c; journal = journal; spent = spent; parcels = parcels; waits = waits; held = false; last = last; room = room })) (sym is)
       (heeds-closed t r c now journal spent parcels waits last room closed discarded reset x stops-there answers made))
 
-  pub owned-closed : (place : Place) (old new : RecordNow) → r ≡ old → Owns place old → live.IsOwned place new.core.live.granted → live.IsOwned place c.live.granted → new.parcels ≡ parcels → Owns place new
+  pub owned-closed : (place : Places) (old new : RecordNow) → r ≡ old → Owns place old → AreHeld place new.core.live.granted → AreHeld place c.live.granted → new.parcels ≡ parcels → Owns place new
   owned-closed place old new e o g own same-parcels = record {
     feed = g;
     parcels = subst (AllByRecursion (IsOwned place)) (sym (same-parcels ∙ made.parcels_are)) (all_append (IsOwned place) (r.parcels ++ parcels_next r.place x) (told_parcels r.place discarded reset)
@@ -590,7 +591,7 @@ signed-so r old e h = subst (λ (v : RecordNow). OnFeedNow v.core.live.feed (λ 
 pub room-so : (r old : RecordNow) → r ≡ old → HasRoomFor 2 old.room → HasRoomFor 2 r.room
 room-so r old e h = subst (λ (v : RecordNow). HasRoomFor 2 v.room) (sym e) h
 
-pub owned-so : (place : Place) (r old : RecordNow) → r ≡ old → Owns place old → live.IsOwned place r.core.live.granted
+pub owned-so : (place : Places) (r old : RecordNow) → r ≡ old → Owns place old → AreHeld place r.core.live.granted
 owned-so place r old e h = (subst (Owns place) (sym e) h).feed
 
 pub done-so : (t : Throttled) (r old : RecordNow) (c : CoreNow) (x : CoreNext) → r ≡ old → has_frame old ≡ true → OnFeedNow old.core.live.feed (λ v. is_framing v.reading ≡ true) → AnswersFront t x r.core c → IsDone x

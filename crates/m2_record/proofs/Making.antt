@@ -5,13 +5,14 @@ use Rattle.m2_core.specs.Agrees.{Agrees}
 use Rattle.m2_core.specs.CoreNow.{at_start}
 use Rattle.m2_journal.specs.SideFacts.{SideFacts}
 use Rattle.m2_journal.specs.State.{start}
+use Rattle.m2_shared.specs.declared.peer_type.PeerType.{PeerType}
 use Rattle.m2_record.specs.IsRecord.{IsRecord, new_record}
 use Rattle.m2_record.specs.RecordNow.{Rooms}
 use Rattle.m2_record.proofs.Kept.{first-within}
 use Rattle.m2_bytes.proofs.m2_lemmas.Booleans.{false_isnt_true}
 
-pub new-is-record : (f : SideFacts) (place : ℕ) (room : Rooms) → AreWaits f.node → Agrees (at_start f) (start f) → IsRecord (record (new_record f place) { room = room })
-new-is-record f place room w a = record {
+pub new-is-record : (f : SideFacts) (place : ℕ) (peer : PeerType) (room : Rooms) → AreWaits f.node → Agrees (at_start f peer) (start f) → IsRecord (record (new_record f place peer) { room = room })
+new-is-record f place peer room w a = record {
   state = start f;
   at_state = record {
     replay = record {

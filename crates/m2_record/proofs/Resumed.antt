@@ -12,7 +12,7 @@ use Rattle.m2_record.specs.IsRecord.{IsRecord}
 use Rattle.m2_record.specs.RecordNow.{RecordNow, Rooms}
 use Rattle.m2_record.proofs.Fronts.{same}
 use Rattle.m2_record.proofs.Heeding.{counts, none-made}
-use Rattle.m2_shared.specs.Place.{Place}
+use Rattle.m2_shared.specs.Gates.{AreHeld, Places}
 
 -- ---- the entry
 
@@ -36,11 +36,11 @@ granted-stays : (n : Option ℕ) (b c : CoreNow) → CountsIf n b c → c.live.g
 granted-stays (Some number) b c x = ap (λ (z : CoreNow). z.live.granted) x.only
 granted-stays None b c x = ap (λ (z : CoreNow). z.live.granted) x
 
-pub counted-owned : (n : Option ℕ) (r : RecordNow) (c : CoreNow) (place : Place) (old new : RecordNow) → r ≡ old → CountsIf n r.core c → new.core ≡ c → new.parcels ≡ r.parcels → Owns place old → Owns place new
+pub counted-owned : (n : Option ℕ) (r : RecordNow) (c : CoreNow) (place : Places) (old new : RecordNow) → r ≡ old → CountsIf n r.core c → new.core ≡ c → new.parcels ≡ r.parcels → Owns place old → Owns place new
 counted-owned n r c place old new e x is p o =
     let owns : Owns place r = subst (Owns place) (sym e) o in
     record {
-      feed = subst (live.IsOwned place) (sym (ap (λ (z : CoreNow). z.live.granted) is ∙ granted-stays n r.core c x)) owns.feed;
+      feed = subst (AreHeld place) (sym (ap (λ (z : CoreNow). z.live.granted) is ∙ granted-stays n r.core c x)) owns.feed;
       parcels = subst (AllByRecursion (IsOwned place)) (sym p) owns.parcels;
     }
 

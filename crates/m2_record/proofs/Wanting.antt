@@ -1,4 +1,4 @@
--- A step that finds no memory leaves the word of a throttle that is alone, and draws no number.
+-- A step that finds no memory leaves the words of throttles that are alone, and draws no number.
 use Rattle.std.proofs.Common.{◌≡◌, ℕ, ◌-◌, Bool, true, false, Option, Some, None, Ok, Err, refl, sym, ap, subst, ◌∙◌, arith}
 use Rattle.std.specs.Prelude.{Result}
 use Rattle.m2_bytes.specs.declared.memory.NoMemory as memory
@@ -16,7 +16,8 @@ use Rattle.m2_journal.specs.declared.facts.PlanStep.{PlanStep}
 use Rattle.m2_journal.specs.declared.facts.PlanStep.TheVariants as step
 use Rattle.m2_shared.specs.Numbers.{SeenNumberPass}
 use Rattle.m2_shared.specs.Place.{Place}
-use Rattle.m2_shared.specs.Throttle.{SeenTakePass}
+use Rattle.m2_shared.specs.Gates.{Gate, Stay, words}
+use Rattle.m2_shared.specs.declared.throttles.TakePasses.{TakePasses}
 use Rattle.m2_record.specs.declared.composing.Composed.{Composed}
 use Rattle.m2_record.specs.declared.composing.Composed.TheVariants as composed
 use Rattle.m2_record.specs.declared.due.Due.{Due}
@@ -28,10 +29,10 @@ use Rattle.m2_record.specs.declared.stepped.Stepped.{Stepped}
 use Rattle.m2_record.specs.declared.stepped.Stepped.TheVariants as stepped
 use Rattle.m2_record.specs.Calls.{DrawsAs, IsSameButRoom, fault_put, returned_for}
 use Rattle.m2_record.specs.Due.{due_step, next_step}
-use Rattle.m2_record.specs.Framing.{word_framed}
+use Rattle.m2_record.specs.Framing.{WordsFramed}
 use Rattle.m2_record.specs.Reading.{Reads, answer_read, fault_by, fault_read}
 use Rattle.m2_record.specs.RecordNow.{RecordNow}
-use Rattle.m2_record.specs.Stepping.{DrawsNothing, GivesBack, IfMemory, KeepsWord, NothingDone, PlansAs, StepsAs, StepsBy, TakesDue, Worked, answer_composed, answer_framed, answer_planned, answer_put, returned_planned}
+use Rattle.m2_record.specs.Stepping.{DrawsNothing, GivesBack, IfMemory, KeepsWords, NothingDone, PlansAs, StepsAs, StepsBy, TakesDue, Worked, answer_composed, answer_framed, answer_planned, answer_put, returned_planned}
 use Rattle.m2_record.proofs.DueSteps.{memory-composed, memory-read, nothing-behind, unheard}
 use Rattle.m2_bytes.proofs.m2_lemmas.Booleans.{false_isnt_true}
 
@@ -45,69 +46,70 @@ is_err (Err e) = true
 
 -- ---- what is given back
 
-planned : (o : Option PlanStep) (taken : Result (Unit {0}) memory.NoMemory) (now : ℕ) (old new : RecordNow) → PlansAs o taken now old new → answer_planned taken ≡ stepped.NoMemory → returned_planned o old ≡ 0
+planned : (o : Option PlanStep) (taken : Result (Unit {0}) memory.NoMemory) (now : ℕ) (old new : RecordNow) → PlansAs o taken now old new → answer_planned taken ≡ stepped.NoMemory →
+    (gate : Gate) → returned_planned o old gate ≡ 0
 unfolding is_memory is_err
-planned o (Ok u) now old new p a = absurd (false_isnt_true (ap is_memory a))
-planned (Some (step.Post m)) (Err e) now old new p a = refl
-planned (Some step.Dial) (Err e) now old new p a = refl
-planned (Some step.Down) (Err e) now old new p a = absurd p
-planned None (Err e) now old new p a = absurd (false_isnt_true (sym (ap is_err p.0)))
+planned o (Ok u) now old new p a gate = absurd (false_isnt_true (ap is_memory a))
+planned (Some (step.Post m)) (Err e) now old new p a gate = refl
+planned (Some step.Dial) (Err e) now old new p a gate = refl
+planned (Some step.Down) (Err e) now old new p a gate = absurd p
+planned None (Err e) now old new p a gate = absurd (false_isnt_true (sym (ap is_err p.0)))
 
-putting : (answer : FeedWrite) (old : RecordNow) → answer_put answer ≡ stepped.NoMemory → returned_for (fault_put answer) old ≡ 0
+putting : (answer : FeedWrite) (old : RecordNow) → answer_put answer ≡ stepped.NoMemory → (gate : Gate) → returned_for (fault_put answer) old gate ≡ 0
 unfolding is_memory
-putting put.NoMemory old a = refl
-putting (put.Put n acknowledged) old a = absurd (false_isnt_true (ap is_memory a))
-putting put.NotYet old a = absurd (false_isnt_true (ap is_memory a))
-putting put.Failed old a = absurd (false_isnt_true (ap is_memory a))
+putting put.NoMemory old a gate = refl
+putting (put.Put n acknowledged) old a gate = absurd (false_isnt_true (ap is_memory a))
+putting put.NotYet old a gate = absurd (false_isnt_true (ap is_memory a))
+putting put.Failed old a gate = absurd (false_isnt_true (ap is_memory a))
 
-reading : (x : RecordRead) (old : RecordNow) → x.answer ≡ read.NoMemory → returned_for (fault_read x) old ≡ 0
-reading x old e = ap (λ (z : EndRead). returned_for (fault_by z x.heard) old) e
+reading : (x : RecordRead) (old : RecordNow) → x.answer ≡ read.NoMemory → (gate : Gate) → returned_for (fault_read x) old gate ≡ 0
+reading x old e gate = ap (λ (z : EndRead). returned_for (fault_by z x.heard) old gate) e
 
-halving : (answer : HalfStep) (word before behind : ℕ) → answer_framed (framed.Half answer) ≡ stepped.NoMemory → word_framed (framed.Half answer) word before behind ≡ word
+halving : (answer : HalfStep) (t : Throttled) (before behind : Gate → ℕ) → answer_framed (framed.Half answer) ≡ stepped.NoMemory → WordsFramed (framed.Half answer) t before behind → KeepsWords t
 unfolding is_memory
-halving half.NoMemory word before behind a = refl
-halving (half.Fault e) word before behind a = absurd (false_isnt_true (ap is_memory a))
-halving half.NotYet word before behind a = absurd (false_isnt_true (ap is_memory a))
-halving half.Wrote word before behind a = absurd (false_isnt_true (ap is_memory a))
-halving half.Authed word before behind a = absurd (false_isnt_true (ap is_memory a))
+halving half.NoMemory t before behind a h = h
+halving (half.Fault e) t before behind a h = absurd (false_isnt_true (ap is_memory a))
+halving half.NotYet t before behind a h = absurd (false_isnt_true (ap is_memory a))
+halving half.Wrote t before behind a h = absurd (false_isnt_true (ap is_memory a))
+halving half.Authed t before behind a h = absurd (false_isnt_true (ap is_memory a))
 
-framing : (f : Framed) (word before behind : ℕ) → answer_framed f ≡ stepped.NoMemory → word_framed f word before behind ≡ word
+framing : (f : Framed) (t : Throttled) (before behind : Gate → ℕ) → answer_framed f ≡ stepped.NoMemory → WordsFramed f t before behind → KeepsWords t
 unfolding is_memory
-framing (framed.Half answer) word before behind a = halving answer word before behind a
-framing framed.NoMemory word before behind a = refl
-framing framed.Passed word before behind a = absurd (false_isnt_true (ap is_memory a))
-framing framed.Granted word before behind a = absurd (false_isnt_true (ap is_memory a))
-framing (framed.Acked number) word before behind a = absurd (false_isnt_true (ap is_memory a))
-framing (framed.Accepted number) word before behind a = absurd (false_isnt_true (ap is_memory a))
-framing (framed.Obeyed full) word before behind a = absurd (false_isnt_true (ap is_memory a))
-framing (framed.Faulted cause) word before behind a = absurd (false_isnt_true (ap is_memory a))
-framing (framed.Full held) word before behind a = absurd (false_isnt_true (ap is_memory a))
-framing (framed.Again seen now) word before behind a = absurd (false_isnt_true (ap is_memory a))
+framing (framed.Half answer) t before behind a h = halving answer t before behind a h
+framing framed.NoMemory t before behind a h = h
+framing framed.Passed t before behind a h = absurd (false_isnt_true (ap is_memory a))
+framing framed.Granted t before behind a h = absurd (false_isnt_true (ap is_memory a))
+framing (framed.Acked number) t before behind a h = absurd (false_isnt_true (ap is_memory a))
+framing (framed.Accepted number) t before behind a h = absurd (false_isnt_true (ap is_memory a))
+framing (framed.Obeyed full) t before behind a h = absurd (false_isnt_true (ap is_memory a))
+framing (framed.Faulted cause) t before behind a h = absurd (false_isnt_true (ap is_memory a))
+framing (framed.Full stage held) t before behind a h = absurd (false_isnt_true (ap is_memory a))
+framing (framed.Again stage seen now) t before behind a h = absurd (false_isnt_true (ap is_memory a))
 
 -- ---- the step that is due
 
-gives_none : (n : ℕ) (t : Throttled) → GivesBack n t → n ≡ 0 → KeepsWord t
-gives_none n t g e alone = let word = g alone in omega (arith, word, e)
+gives_none : (n : Gate → ℕ) (t : Throttled) → GivesBack n t → ((gate : Gate) → n gate ≡ 0) → KeepsWords t
+gives_none n t g none gate alone = let word = g gate alone in let e = none gate in omega (arith, word, e)
 
-takes_none : (t : Throttled) → t.behind ≡ t.before → KeepsWord t
-takes_none t e alone = ap (λ (p : SeenTakePass). p.word) e
+takes_none : (t : Throttled) → t.behind ≡ t.before → KeepsWords t
+takes_none t e gate alone = ap (λ (p : TakePasses). words p gate) e
 
 drawn : (c : Composed) (place : Place) (before behind : SeenNumberPass) → c ≡ composed.NoMemory → DrawsAs c place before behind → behind ≡ before
 drawn c place before behind e d = subst (λ (z : Composed). DrawsAs z place before behind) e d
 
-by_due : (d : Due) (w : Worked) (old new : RecordNow) → w.answer ≡ stepped.NoMemory → StepsBy d w old new → KeepsWord w.bytes × DrawsNothing w.numbers
+by_due : (d : Due) (w : Worked) (old new : RecordNow) → w.answer ≡ stepped.NoMemory → StepsBy d w old new → KeepsWords w.bytes × DrawsNothing w.numbers
 by_due due.Nothing w old new a h = (takes_none w.bytes h.bytes, h.numbers)
 by_due (due.Connect at) w old new a h = (takes_none w.bytes h.bytes, h.numbers)
 by_due due.Plan w old new a h = (gives_none _ w.bytes h.bytes (planned (next_step old) h.taken w.now old new h.plans (sym h.answers ∙ a)), h.numbers)
 by_due due.Hand w old new a h = (takes_none w.bytes h.bytes, h.numbers)
 by_due due.Write w old new a h = (gives_none _ w.bytes h.bytes (putting h.put old (sym h.answers ∙ a)), h.numbers)
-by_due due.Frame w old new a h = (λ alone. h.bytes alone ∙ framing h.framed w.bytes.before.word _ _ (sym h.answers ∙ a), h.numbers)
+by_due due.Frame w old new a h = (framing h.framed w.bytes _ _ (sym h.answers ∙ a) h.bytes, h.numbers)
 by_due due.Read w old new a h =
     let none : h.read.answer ≡ read.NoMemory = memory-read h.read.answer h.read.heard (sym h.answers ∙ a) in
     (gives_none _ w.bytes h.bytes (reading h.read old none), h.numbers ∙ ap (λ (o : Option Heard). raised_by o w.numbers.before) (unheard h.read w.now old new h.reads none))
 by_due due.Compose w old new a h = (takes_none w.bytes h.bytes, drawn h.composed w.numbers.place w.numbers.before w.numbers.behind (memory-composed h.composed (sym h.answers ∙ a)) h.numbers)
 
-due-wanting : (w : Worked) (old new : RecordNow) → w.answer ≡ stepped.NoMemory → TakesDue w old new → KeepsWord w.bytes × DrawsNothing w.numbers
+due-wanting : (w : Worked) (old new : RecordNow) → w.answer ≡ stepped.NoMemory → TakesDue w old new → KeepsWords w.bytes × DrawsNothing w.numbers
 due-wanting w old new a takes = by_due (due_step w.now old) w old new a takes
 
 -- ---- the step
@@ -119,7 +121,7 @@ step-at stepped.NoMemory w old mid new is room due none =
 step-at stepped.Moved w old mid new is room due none = (mid, room, due)
 step-at (stepped.Hand x) w old mid new is room due none = (mid, room, due)
 step-at stepped.Dry w old mid new is room due none = (mid, room, due)
-step-at (stepped.Full held) w old mid new is room due none = (mid, room, due)
-step-at (stepped.Again seen now) w old mid new is room due none = (mid, room, due)
+step-at (stepped.Full stage held) w old mid new is room due none = (mid, room, due)
+step-at (stepped.Again stage seen now) w old mid new is room due none = (mid, room, due)
 step-at stepped.Spent w old mid new is room due none = (mid, room, due)
 step-at (stepped.Faulted cause) w old mid new is room due none = (mid, room, due)

@@ -49,6 +49,7 @@ use Rattle.m2_session.specs.declared.event.Event.TheVariants as event
 use Rattle.m2_session.specs.Steps.{step_of}
 use Rattle.m2_shared.specs.Numbers.{SeenNumberPass}
 use Rattle.m2_shared.specs.Place.{Place}
+use Rattle.m2_shared.specs.Gates.{AreHeld, Gate, Places, held}
 use Rattle.m2_record.specs.declared.composing.Composed.{Composed}
 use Rattle.m2_record.specs.declared.composing.Composed.TheVariants as composed
 use Rattle.m2_record.specs.Due.{due_step, next_step, on_feed}
@@ -178,10 +179,10 @@ MayGoDown false r = is_exhausted r.core ≡ true
 
 -- ---- grants
 
--- all that it holds was granted by the throttle whose word lies there
-pub record Owns (place : Place) (r : RecordNow) : Type 0 where
-  pub feed : live.IsOwned place r.core.live.granted
-  pub parcels : AllByRecursion (IsOwned place) r.parcels
+-- all that it holds was granted by the throttles whose words lie there
+pub record Owns (places : Places) (r : RecordNow) : Type 0 where
+  pub feed : AreHeld places r.core.live.granted
+  pub parcels : AllByRecursion (IsOwned places) r.parcels
 
 -- there is room for an end that was closed, where there is one
 abbrev pub FitsClosed : Option SeenEnd → (room : ℕ) → Type 0
@@ -296,9 +297,9 @@ is_down_next (Some step.Down) = true
 is_down_next _ = false
 
 -- what is given back then: where the session is given up, what is held for the feed
-abbrev pub returned_by : Option PlanStep → RecordNow → ℕ
-returned_by (Some step.Down) r = live.held r.core.live.granted
-returned_by next r = 0
+abbrev pub returned_by : Option PlanStep → RecordNow → Gate → ℕ
+returned_by (Some step.Down) r gate = held r.core.live.granted gate
+returned_by next r gate = 0
 
 -- ---- a connect that failed
 
@@ -306,15 +307,19 @@ returned_by next r = 0
 abbrev pub after_missing : (now : ℕ) → RecordNow → RecordNow
 after_missing now r = record r { missed = not_above (r.missed + 1); waits = begun r.core.facts.node now r.waits }
 
--- how many bytes were granted for a parcel, and for all of them
-abbrev pub granted_in : Parcel → ℕ
-granted_in (parcel.Letter l) = l.grant.n
-granted_in (parcel.Discard peer) = 0
-granted_in (parcel.RemoteReset peer) = 0
+-- how much was granted for a parcel at a gate, and for all of them
+abbrev pub granted_in : Parcel → Gate → ℕ
+granted_in (parcel.Letter l) gate = held l.grants gate
+granted_in (parcel.Discard peer) gate = 0
+granted_in (parcel.RemoteReset peer) gate = 0
 
-abbrev pub all_granted : List Parcel → ℕ
-all_granted [] = 0
-all_granted (x ∷ xs) = granted_in x + all_granted xs
+abbrev pub all_granted : List Parcel → Gate → ℕ
+all_granted [] gate = 0
+all_granted (x ∷ xs) gate = granted_in x gate + all_granted xs gate
+
+-- how much it holds at a gate: for the MESSAGE that isn't finished, and for what is ready
+abbrev pub all_held : RecordNow → Gate → ℕ
+all_held r gate = held r.core.live.granted gate + all_granted r.parcels gate
 
 -- ---- a fault
 
@@ -364,9 +369,9 @@ ClosesFor (Some f) now mid new = Breaks now mid new
 ClosesFor None now mid new = new ≡ mid
 
 -- what is given back then: where the feed is closed, what is held for it
-abbrev pub returned_for : Option WireFault → RecordNow → ℕ
-returned_for (Some f) r = live.held r.core.live.granted
-returned_for None r = 0
+abbrev pub returned_for : Option WireFault → RecordNow → Gate → ℕ
+returned_for (Some f) r gate = held r.core.live.granted gate
+returned_for None r gate = 0
 
 -- the feed's end is written once, and the feed is closed where that finds a fault
 pub record Writes (answer : FeedWrite) (now : ℕ) (old new : RecordNow) : Type 0 where

@@ -8,6 +8,7 @@ use Rattle.m2_core.specs.declared.next.CoreNext.TheVariants as next
 use Rattle.m2_core.specs.CoreNow.{CoreNow}
 use Rattle.m2_core.specs.Front.{heard_by}
 use Rattle.m2_core.specs.Granting.{Throttled}
+use Rattle.m2_shared.specs.Gates.{Gate, Keep, Return, Stay}
 use Rattle.m2_core.specs.Hearing.{HasObeyed}
 use Rattle.m2_core.specs.Next.{IsNext, IsResetHeard}
 use Rattle.m2_dispatch.specs.declared.parcel.Parcel.{Parcel}
@@ -62,8 +63,8 @@ framed_next next.Granted = framed.Granted
 framed_next (next.Acked number) = framed.Acked number
 framed_next (next.Accepted a) = framed.Accepted a.number
 framed_next (next.Resets full) = framed.Obeyed full
-framed_next (next.Full out) = framed.Full out
-framed_next (next.Again seen now) = framed.Again seen now
+framed_next (next.Full stage out) = framed.Full stage out
+framed_next (next.Again stage seen now) = framed.Again stage seen now
 framed_next (next.Fault cause) = framed.Faulted cause
 framed_next next.NoMemory = framed.NoMemory
 
@@ -75,7 +76,7 @@ entries_next _ = []
 
 -- a message is a letter of the peer, with what was granted for it
 abbrev pub letter_of : (place : ℕ) → CoreAccepted → Parcel
-letter_of place a = parcel.Letter (record { peer = place; key = a.key; number = a.number; life = a.life; message = a.message; grant = a.grant })
+letter_of place a = parcel.Letter (record { peer = place; key = a.key; number = a.number; life = a.life; message = a.message; grants = a.grants })
 
 abbrev pub parcels_next : (place : ℕ) → CoreNext → List Parcel
 parcels_next place (next.Accepted a) = letter_of place a ∷ []
@@ -114,8 +115,8 @@ Heeds t (framed.Acked number) now old new = AnswersFront t (next.Acked number) o
 Heeds t (framed.Accepted number) now old new = AcceptsOne t number now old new
 Heeds t (framed.Obeyed full) now old new = AnswersFront t (next.Resets full) old.core new.core × IsSameButRoom old new
 Heeds t (framed.Faulted cause) now old new = AnswersFront t (next.Fault cause) old.core new.core × Breaks now old new
-Heeds t (framed.Full out) now old new = AnswersFront t (next.Full out) old.core new.core × IsSameButRoom old new
-Heeds t (framed.Again seen at) now old new = AnswersFront t (next.Again seen at) old.core new.core × IsSameButRoom old new
+Heeds t (framed.Full stage out) now old new = AnswersFront t (next.Full stage out) old.core new.core × ChangesCore old new
+Heeds t (framed.Again stage seen at) now old new = AnswersFront t (next.Again stage seen at) old.core new.core × ChangesCore old new
 Heeds t framed.NoMemory now old new = AnswersFront t next.NoMemory old.core new.core × IsSameButRoom old new
 
 -- the reset is obeyed; a full one is told: a discard, and behind it a remote reset
@@ -136,11 +137,13 @@ Frames t answer now old new = Heeds t answer now old new
 
 -- ---- what is held
 
--- The word of a throttle that is alone, by what is held for the feed before and behind: a size is drawn when it is granted,
--- and what is held is given back where its text is passed, or the feed closed. What is held for a letter stays drawn.
-abbrev pub word_framed : Framed → (word before behind : ℕ) → ℕ
-word_framed framed.Granted word before behind = word + behind
-word_framed framed.Passed word before behind = word - before
-word_framed (framed.Faulted cause) word before behind = word - before
-word_framed (framed.Half (half.Fault e)) word before behind = word - before
-word_framed _ word before behind = word
+-- The words of throttles that are alone, by what is held for the feed before and behind: what a stage grants is drawn when it
+-- grants, and what is held is given back where its text is passed, or the feed closed. What is held for a letter stays drawn.
+abbrev pub WordsFramed : Framed → Throttled → (before behind : Gate → ℕ) → Type 0
+WordsFramed framed.Granted t before behind = Keep before behind t.throttles t.before t.behind
+WordsFramed (framed.Full stage out) t before behind = Keep before behind t.throttles t.before t.behind
+WordsFramed (framed.Again stage seen now) t before behind = Keep before behind t.throttles t.before t.behind
+WordsFramed framed.Passed t before behind = Return before t.throttles t.before t.behind
+WordsFramed (framed.Faulted cause) t before behind = Return before t.throttles t.before t.behind
+WordsFramed (framed.Half (half.Fault e)) t before behind = Return before t.throttles t.before t.behind
+WordsFramed _ t before behind = Stay t.throttles t.before t.behind

@@ -1,7 +1,9 @@
 -- A record is the replay of its journal. This project's own.
 use Rattle.std.specs.Prelude.{◌≡◌, ℕ, ◌<◌, ◌^◌, true, false, if◌then◌else◌, List, [], ◌++◌, length, map, Option, Some, None}
 use Rattle.std.specs.List.{AllByRecursion, filter_map}
-use Rattle.m2_core.specs.LiveNow.{OnFeedNow}
+use Rattle.m2_shared.specs.Gates.{is_whole}
+use Rattle.m2_shared.specs.declared.peer_type.PeerType.{PeerType}
+use Rattle.m2_core.specs.LiveNow.{AreFor, OnFeedNow}
 use Rattle.m2_core.specs.LiveNumbering.{FitsFrame}
 use Rattle.m2_core.specs.Waits.{IsWithin, at_first}
 use Rattle.m2_core.specs.Agrees.{Agrees}
@@ -90,9 +92,9 @@ pub record FitFrames (q : Queue) : Type 0 where
   pub kept : AllByRecursion FitsFrame q.kept
   pub waiting : AllByRecursion FitsFrame q.waiting
 
--- what is handed out comes from this peer, and for a message its size was granted
+-- what is handed out comes from this peer, and for a message each stage has granted
 abbrev pub IsFrom : (place : ℕ) → Parcel → Type 0
-IsFrom place (parcel.Letter l) = (l.peer ≡ place) × (l.grant.n ≡ size_of l.message)
+IsFrom place (parcel.Letter l) = (l.peer ≡ place) × (is_whole l.grants ≡ true) × AreFor (Some (size_of l.message)) l.grants
 IsFrom place (parcel.Discard peer) = peer ≡ place
 IsFrom place (parcel.RemoteReset peer) = peer ≡ place
 
@@ -143,15 +145,15 @@ pub record IsRecord (r : RecordNow) : Type 0 where
 abbrev pub no_room : Rooms
 no_room = record { entries = 0; parcels = 0; ends = 0; trails = 0 }
 
--- nothing planned, nothing done
-abbrev pub new_record : SideFacts → (place : ℕ) → RecordNow
-new_record f place = record {
+-- nothing planned, nothing done, towards a peer of this type
+abbrev pub new_record : SideFacts → (place : ℕ) → PeerType → RecordNow
+new_record f place peer = record {
   place = place;
   plan = [];
   steps = 0;
   journal = [];
   trails = [];
-  core = at_start f;
+  core = at_start f peer;
   spent = [];
   parcels = [];
   handed = 0;

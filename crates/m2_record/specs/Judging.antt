@@ -20,7 +20,8 @@ use Rattle.m2_journal.specs.Lawful.{judged_on, may_ask_again}
 use Rattle.m2_session.specs.declared.answer.Answer.{Answer}
 use Rattle.m2_session.specs.declared.event.Effects.{Effects}
 use Rattle.m2_session.specs.SessionLaws.{takes}
-use Rattle.m2_shared.specs.Throttle.{SeenGrant}
+use Rattle.m2_shared.specs.Gates.{Gate, held}
+use Rattle.m2_shared.specs.declared.peer_grants.PeerGrants.{PeerGrants}
 use Rattle.m2_trail.specs.Asks.{AgreesWith}
 use Rattle.m2_trail.specs.Incoming.{IncomingNow, after_judging}
 use Rattle.m2_trail.specs.Trails.{IsTakenTrail, IsWholeTrail, TrailNow, unread_of}
@@ -138,6 +139,6 @@ JudgesAs (judged.Back answer arrival) v a now old new =
 JudgesAs (judged.NoMemory arrival) v a now old new = (arrival ≡ record a { room = arrival.room }) × IsSameButRoom old new
 
 -- what is given back: where the socket is taken, what was held for the old feed
-abbrev pub given_back : {E : Type 0} → Judged E → (granted : Option SeenGrant) → ℕ
-given_back (judged.Taken answer) granted = live.held granted
-given_back _ granted = 0
+abbrev pub given_back : {E : Type 0} → Judged E → (granted : PeerGrants) → Gate → ℕ
+given_back (judged.Taken answer) granted gate = held granted gate
+given_back _ granted gate = 0

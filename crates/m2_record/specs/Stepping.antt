@@ -15,7 +15,8 @@ use Rattle.m2_feed.specs.declared.wire_fault.WireFault.TheVariants as fault
 use Rattle.m2_journal.specs.declared.facts.PlanStep.{PlanStep}
 use Rattle.m2_shared.specs.declared.limits.TheConstants.{LAST_NUMBER}
 use Rattle.m2_shared.specs.Numbers.{SeenNumberPass}
-use Rattle.m2_shared.specs.Place.{IsAlone, Place}
+use Rattle.m2_shared.specs.Place.{Place}
+use Rattle.m2_shared.specs.Gates.{Gate, Places, Return, Stay, held}
 use Rattle.m2_record.specs.declared.composing.Composed.{Composed}
 use Rattle.m2_record.specs.declared.composing.Composed.TheVariants as composed
 use Rattle.m2_record.specs.declared.due.Due.{Due}
@@ -28,7 +29,7 @@ use Rattle.m2_record.specs.declared.stepped.Stepped.TheVariants as stepped
 use Rattle.m2_record.specs.declared.work.Work.{Work}
 use Rattle.m2_record.specs.Calls.{ComposesAs, DrawsAs, GoesDown, HandsOut, IsSameButRoom, TakesNext, Writes, fault_put, returned_by, returned_for}
 use Rattle.m2_record.specs.Due.{due_step, next_step}
-use Rattle.m2_record.specs.Framing.{Frames, word_framed}
+use Rattle.m2_record.specs.Framing.{Frames, WordsFramed}
 use Rattle.m2_record.specs.Reading.{Reads, answer_read, fault_read}
 use Rattle.m2_record.specs.RecordNow.{RecordNow}
 
@@ -51,20 +52,20 @@ abbrev pub worked : (now : ℕ) → Stepped → Work → Work → Worked
 worked now answer old new = record {
   now = now;
   answer = answer;
-  bytes = record { throttle = old.throttle.now; before = old.take_pass.now; behind = new.take_pass.now };
+  bytes = record { throttles = old.throttles.now; before = old.passes.now; behind = new.passes.now };
   numbers = record { place = old.numbers.now.place; before = old.number_pass.now; behind = new.number_pass.now };
 }
 
--- so many bytes are given back to a throttle that is alone
-abbrev pub GivesBack : ℕ → Throttled → Type 0
-GivesBack n t = IsAlone t.throttle.place → t.behind.word ≡ t.before.word - n
+-- so much is given back to the throttles that are alone
+abbrev pub GivesBack : (Gate → ℕ) → Throttled → Type 0
+GivesBack n t = Return n t.throttles t.before t.behind
 
 abbrev pub TakesNothing : Throttled → Type 0
 TakesNothing t = t.behind ≡ t.before
 
--- a throttle that is alone has as much out as before
-abbrev pub KeepsWord : Throttled → Type 0
-KeepsWord t = IsAlone t.throttle.place → t.behind.word ≡ t.before.word
+-- each throttle that is alone has as much out as before
+abbrev pub KeepsWords : Throttled → Type 0
+KeepsWords t = Stay t.throttles t.before t.behind
 
 abbrev pub DrawsNothing : Counted → Type 0
 DrawsNothing n = n.behind ≡ n.before
@@ -73,10 +74,10 @@ DrawsNothing n = n.behind ≡ n.before
 abbrev pub KeepsReached : (before behind : SeenNumberPass) → Type 0
 KeepsReached before behind = (n : ℕ) → n ≤ LAST_NUMBER → n ≤ before.least → n ≤ behind.least
 
--- a work has the same counter and the same throttle still
+-- a work has the same counter and the same throttles still
 pub record IsSameWork (old new : Work) : Type 0 where
   pub numbers : new.numbers.now ≡ old.numbers.now
-  pub throttle : new.throttle.now ≡ old.throttle.now
+  pub throttles : new.throttles.now ≡ old.throttles.now
 
 -- ---- what the answers of its calls say
 
@@ -94,14 +95,14 @@ abbrev pub answer_framed : Framed → Stepped
 answer_framed (framed.Half (half.Fault e)) = stepped.Faulted (fault.Half e)
 answer_framed (framed.Half half.NoMemory) = stepped.NoMemory
 answer_framed (framed.Faulted cause) = stepped.Faulted cause
-answer_framed (framed.Full held) = stepped.Full held
-answer_framed (framed.Again seen now) = stepped.Again seen now
+answer_framed (framed.Full stage held) = stepped.Full stage held
+answer_framed (framed.Again stage seen now) = stepped.Again (Some stage) seen now
 answer_framed framed.NoMemory = stepped.NoMemory
 answer_framed _ = stepped.Moved
 
 abbrev pub answer_composed : Composed → Stepped
 answer_composed composed.Spent = stepped.Spent
-answer_composed (composed.Again seen now) = stepped.Again seen now
+answer_composed (composed.Again seen now) = stepped.Again None seen now
 answer_composed composed.NoMemory = stepped.NoMemory
 answer_composed _ = stepped.Moved
 
@@ -112,9 +113,9 @@ abbrev pub PlansAs : Option PlanStep → Result (Unit {0}) memory.NoMemory → (
 PlansAs (Some x) answer now old new = TakesNext (Some x) answer now old new
 PlansAs None answer now old new = (answer ≡ Ok tt) × GoesDown false old new
 
-abbrev pub returned_planned : Option PlanStep → RecordNow → ℕ
-returned_planned (Some x) r = returned_by (Some x) r
-returned_planned None r = live.held r.core.live.granted
+abbrev pub returned_planned : Option PlanStep → RecordNow → Gate → ℕ
+returned_planned (Some x) r gate = returned_by (Some x) r gate
+returned_planned None r gate = held r.core.live.granted gate
 
 pub record StepsPlan (w : Worked) (old new : RecordNow) : Type 0 where
   pub taken : Result (Unit {0}) memory.NoMemory
@@ -144,7 +145,7 @@ pub record StepsFrame (w : Worked) (old new : RecordNow) : Type 0 where
   pub framed : Framed
   pub frames : Frames w.bytes framed w.now old new
   pub answers : w.answer ≡ answer_framed framed
-  pub bytes : IsAlone w.bytes.throttle.place → w.bytes.behind.word ≡ word_framed framed w.bytes.before.word (live.held old.core.live.granted) (live.held new.core.live.granted)
+  pub bytes : WordsFramed framed w.bytes (held old.core.live.granted) (held new.core.live.granted)
   pub numbers : DrawsNothing w.numbers
 
 -- a number that the peer tells raises the counter
@@ -199,7 +200,7 @@ pub record NothingDone (old new : RecordNow) : Type 0 where
 -- nothing is done to the record, nothing is granted or given back, and no number is drawn
 pub record FindsNoMemory (w : Worked) (old new : RecordNow) : Type 0 where
   pub nothing : NothingDone old new
-  pub bytes : KeepsWord w.bytes
+  pub bytes : KeepsWords w.bytes
   pub numbers : DrawsNothing w.numbers
 
 -- this for want of memory
@@ -214,7 +215,7 @@ abbrev pub StepsAs : Stepped → Worked → RecordNow → RecordNow → Type 0
 StepsAs stepped.NoMemory w old new = FindsNoMemory w old new
 StepsAs answer w old new = (mid : RecordNow) × IsSameButRoom old mid × TakesDue w mid new
 
--- a parcel that a step hands out was granted by the throttle whose word lies there
-abbrev pub IsHandedOwned : Place → Stepped → Type 0
-IsHandedOwned place (stepped.Hand x) = IsOwned place x
-IsHandedOwned place answer = Unit {0}
+-- a parcel that a step hands out was granted by the throttles whose words lie there
+abbrev pub IsHandedOwned : Places → Stepped → Type 0
+IsHandedOwned places (stepped.Hand x) = IsOwned places x
+IsHandedOwned places answer = Unit {0}

@@ -1,7 +1,7 @@
 //! What a resumption acknowledges is counted by the step that takes it.
 
 ghost use Rattle.std.specs.Prelude.{◌≡◌, ◌<◌, ◌++◌};
-ghost use Rattle.m2_shared.specs.Place.{Place};
+ghost use Rattle.m2_shared.specs.Gates.{Places};
 ghost use Rattle.m2_record.specs.Calls.{CountsResumption, Owns, acked_entries};
 
 use crate::record::Record;
@@ -14,7 +14,7 @@ impl<E: End> Record<E> {
     pub(crate) fn count_resumption(&mut self)
         requires room { 0 < self.old.room.entries }
         ensures counts { CountsResumption self.old self.new }
-        ensures owned { (place : Place) → Owns place self.old → Owns place self.new }
+        ensures owned { (places : Places) → Owns places self.old → Owns places self.new }
     {
         let counted = self.core.count_resumption();
         note_acked(counted, &mut self.journal);

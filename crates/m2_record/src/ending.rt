@@ -5,9 +5,8 @@ ghost use Rattle.std.specs.List.{AllByRecursion};
 ghost use Rattle.std.specs.VecDeque.{deque_len};
 ghost use Rattle.std.specs.Prelude.{map};
 ghost use Rattle.m2_dispatch.specs.Parcel.{IsOwned};
-ghost use Rattle.m2_shared.specs.Place.{IsAlone};
-ghost use Rattle.m2_core.specs.LiveNow.{held};
-ghost use Rattle.m2_record.specs.Calls.{Owns, all_granted, granted_in};
+ghost use Rattle.m2_shared.specs.Gates.{ArePassesOf, Return, places};
+ghost use Rattle.m2_record.specs.Calls.{Owns, all_granted, all_held, granted_in};
 ghost use Rattle.m2_record.specs.IsRecord.{FeedHasRoom};
 ghost use Rattle.m2_record.specs.RecordNow.{feed_end};
 
@@ -16,18 +15,18 @@ use m2_bytes::Items;
 use m2_dispatch::{Letter, Parcel};
 use m2_fabric::End;
 use m2_feed::Feed;
-use m2_shared::{TakePass, Throttle};
+use m2_shared::{TakePasses, Throttles};
 use std::collections::VecDeque;
 
 impl<E: End> Record<E> {
     /// Gives back all that was granted, and gives the ends that were the feed, and then the feed's as it
     /// is. Takes no memory.
-    pub fn ends(self, throttle: &Throttle, pass: &mut TakePass) -> Items<E>
-        requires pass { pass.old.place ≡ throttle.now.place }
-        requires owned { Owns throttle.now.place self }
+    pub fn ends(self, throttles: &Throttles, passes: &mut TakePasses) -> Items<E>
+        requires passes { ArePassesOf throttles.now passes.old }
+        requires owned { Owns (places throttles.now) self }
         ensures ends { map E.seen result.items ≡ self.spent ++ feed_end self.core.live.feed }
-        ensures place { pass.new.place ≡ pass.old.place }
-        ensures word { IsAlone throttle.now.place → pass.new.word ≡ pass.old.word - held self.core.live.granted - all_granted self.parcels }
+        ensures passes { ArePassesOf throttles.now passes.new }
+        ensures word { Return (all_held self) throttles.now passes.old passes.new }
     {
         let Record {
             place: _,
@@ -44,8 +43,8 @@ impl<E: End> Record<E> {
             missed: _,
             last: _,
         } = self;
-        let feed = core.end(throttle, pass);
-        give_all(parcels, throttle, pass);
+        let feed = core.end(throttles, passes);
+        give_all(parcels, throttles, passes);
         put_left(feed, &mut spent);
         Items::from_vec(spent)
     }
@@ -62,25 +61,25 @@ fn put_left<E: End>(feed: Option<Feed<E>>, spent: &mut Vec<E>)
 }
 
 /// Gives back what was granted for the letters of all these parcels.
-fn give_all(parcels: VecDeque<Parcel>, throttle: &Throttle, pass: &mut TakePass)
-    requires pass { pass.old.place ≡ throttle.now.place }
-    requires owned { AllByRecursion (IsOwned throttle.now.place) parcels.items }
-    ensures place { pass.new.place ≡ pass.old.place }
-    ensures word { IsAlone throttle.now.place → pass.new.word ≡ pass.old.word - all_granted parcels.items }
+fn give_all(parcels: VecDeque<Parcel>, throttles: &Throttles, passes: &mut TakePasses)
+    requires passes { ArePassesOf throttles.now passes.old }
+    requires owned { AllByRecursion (IsOwned (places throttles.now)) parcels.items }
+    ensures passes { ArePassesOf throttles.now passes.new }
+    ensures word { Return (all_granted parcels.items) throttles.now passes.old passes.new }
 {
     let mut parcels = parcels;
     'giving: while let Some(parcel) = parcels.pop_front() {
-        give_one(parcel, throttle, pass);
+        give_one(parcel, throttles, passes);
     }
     parcels.destroy_empty();
 }
 
 /// Gives back what was granted for a parcel's letter.
-fn give_one(parcel: Parcel, throttle: &Throttle, pass: &mut TakePass)
-    requires pass { pass.old.place ≡ throttle.now.place }
-    requires owned { IsOwned throttle.now.place parcel }
-    ensures place { pass.new.place ≡ pass.old.place }
-    ensures word { IsAlone throttle.now.place → pass.new.word ≡ pass.old.word - granted_in parcel }
+fn give_one(parcel: Parcel, throttles: &Throttles, passes: &mut TakePasses)
+    requires passes { ArePassesOf throttles.now passes.old }
+    requires owned { IsOwned (places throttles.now) parcel }
+    ensures passes { ArePassesOf throttles.now passes.new }
+    ensures word { Return (granted_in parcel) throttles.now passes.old passes.new }
 {
     match parcel {
         Parcel::Letter(letter) => {
@@ -90,9 +89,9 @@ fn give_one(parcel: Parcel, throttle: &Throttle, pass: &mut TakePass)
                 number: _,
                 life: _,
                 message: _,
-                grant,
+                grants,
             } = letter;
-            throttle.give(pass, grant);
+            grants.back(throttles, passes);
         }
         Parcel::Discard { peer: _ } => {}
         Parcel::RemoteReset { peer: _ } => {}

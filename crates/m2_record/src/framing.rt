@@ -2,16 +2,16 @@
 
 ghost use Rattle.std.specs.Prelude.{◌≡◌, ◌+◌, ◌-◌, ◌<◌, ◌≤◌, ◌++◌, length, true, false};
 ghost use Rattle.std.specs.VecDeque.{deque_capacity, deque_len};
-ghost use Rattle.m2_core.specs.LiveNow.{OnFeedNow, held};
+ghost use Rattle.m2_core.specs.LiveNow.{OnFeedNow};
 ghost use Rattle.m2_core.specs.Next.{IsResetHeard};
 ghost use Rattle.m2_feed.specs.FeedNow.{is_framing};
 ghost use Rattle.m2_handshake.specs.declared.answer.HalfStep.TheVariants as half;
-ghost use Rattle.m2_shared.specs.Place.{IsAlone, Place};
+ghost use Rattle.m2_shared.specs.Gates.{ArePassesOf, Places, held, places};
 ghost use Rattle.m2_record.specs.declared.due.Due.TheVariants as due;
 ghost use Rattle.m2_record.specs.declared.framing.Framed.TheVariants as framed;
 ghost use Rattle.m2_record.specs.Calls.{HasRoomFor, Owns};
 ghost use Rattle.m2_record.specs.Due.{due_step, has_frame};
-ghost use Rattle.m2_record.specs.Framing.{Frames, Greets, Heeds, IsDone, IsResetIf, Obeys, entries_next, framed_next, is_faulted, is_signed, moment_next, parcels_next, reset_in, word_framed};
+ghost use Rattle.m2_record.specs.Framing.{Frames, Greets, Heeds, IsDone, IsResetIf, Obeys, entries_next, framed_next, is_faulted, is_signed, moment_next, parcels_next, reset_in, WordsFramed};
 
 use crate::leaving::{put_closed, put_told};
 use crate::record::Record;
@@ -21,7 +21,7 @@ use m2_fabric::End;
 use m2_feed::WireFault;
 use m2_handshake::HalfStep;
 use m2_journal::{Entry, EntryList};
-use m2_shared::{TakePass, Throttle};
+use m2_shared::{Stage, TakePasses, Throttles};
 use std::collections::VecDeque;
 
 /// What was done with what was read.
@@ -31,7 +31,7 @@ pub enum Framed {
     Half(HalfStep),
     /// A text was passed of which no entry is made.
     Passed,
-    /// The size of the MESSAGE that is on its way is granted.
+    /// Each stage has granted for the MESSAGE that is on its way.
     Granted,
     /// The peer's acknowledgement up to this number was counted.
     Acked { number: u64 },
@@ -41,10 +41,11 @@ pub enum Framed {
     Obeyed { full: bool },
     /// What is there may not come, or can't be read: the feed was closed for this cause.
     Faulted(WireFault),
-    /// So many bytes are out that the size of a MESSAGE has to wait. Nothing was done.
-    Full { held: u64 },
-    /// Another thread took or gave at that moment. Nothing was done, and one may try again.
-    Again { seen: u64, now: u64 },
+    /// So much is out at this stage that a MESSAGE has to wait. What the stages before it have granted is held.
+    Full { stage: Stage, held: u64 },
+    /// Another thread took or gave at this stage at that moment; one may try again. What the stages before it
+    /// have granted is held.
+    Again { stage: Stage, seen: u64, now: u64 },
     /// Nothing was done.
     NoMemory,
 }
@@ -52,23 +53,24 @@ pub enum Framed {
 impl<E: End> Record<E> {
     /// Takes the step Frame, which is due: one answer of the opener's half, or what stands at the front of
     /// the feed. One entry at most is made, or two where a feed is closed behind another entry. Two entries
-    /// and parcels are reserved. An answer of Full, Again or NoMemory leaves all but the room as it was.
-    pub fn frame(&mut self, throttle: &Throttle, pass: &mut TakePass, now: u64) -> Framed
+    /// and parcels are reserved. An answer of Full or Again leaves all but the room and what is granted as it was,
+    /// and NoMemory all but the room.
+    pub fn frame(&mut self, throttles: &Throttles, passes: &mut TakePasses, now: u64) -> Framed
         requires due { due_step now self.old ≡ due.Frame }
         requires room { HasRoomFor 2 self.old.room }
-        requires pass { pass.old.place ≡ throttle.now.place }
-        requires owned { Owns throttle.now.place self.old }
-        ensures frames { Frames (record { throttle = throttle.now; before = pass.old; behind = pass.new }) result now self.old self.new }
-        ensures owned { Owns throttle.now.place self.new }
+        requires passes { ArePassesOf throttles.now passes.old }
+        requires owned { Owns (places throttles.now) self.old }
+        ensures frames { Frames (record { throttles = throttles.now; before = passes.old; behind = passes.new }) result now self.old self.new }
+        ensures owned { Owns (places throttles.now) self.new }
         ensures top { self.new.core.top ≡ self.old.core.top }
-        ensures place { pass.new.place ≡ pass.old.place }
-        ensures word { IsAlone throttle.now.place → pass.new.word ≡ word_framed result pass.old.word (held self.old.core.live.granted) (held self.new.core.live.granted) }
+        ensures passes { ArePassesOf throttles.now passes.new }
+        ensures word { WordsFramed result (record { throttles = throttles.now; before = passes.old; behind = passes.new }) (held self.old.core.live.granted) (held self.new.core.live.granted) }
     {
         let _ = &self.core;
         if self.is_signed() {
-            self.take_front(throttle, pass, now)
+            self.take_front(throttles, passes, now)
         } else {
-            Framed::Half(self.greet(throttle, pass, now))
+            Framed::Half(self.greet(throttles, passes, now))
         }
     }
 
@@ -83,20 +85,20 @@ impl<E: End> Record<E> {
     }
 
     /// One answer of the opener's half. For a fault that it finds the feed is closed.
-    fn greet(&mut self, throttle: &Throttle, pass: &mut TakePass, now: u64) -> HalfStep
+    fn greet(&mut self, throttles: &Throttles, passes: &mut TakePasses, now: u64) -> HalfStep
         requires unsigned { OnFeedNow self.old.core.live.feed (λ v. is_framing v.reading ≡ false) }
         requires room { HasRoomFor 2 self.old.room }
-        requires pass { pass.old.place ≡ throttle.now.place }
-        requires owned { Owns throttle.now.place self.old }
+        requires passes { ArePassesOf throttles.now passes.old }
+        requires owned { Owns (places throttles.now) self.old }
         ensures greets { Greets result now self.old self.new }
-        ensures owned { Owns throttle.now.place self.new }
+        ensures owned { Owns (places throttles.now) self.new }
         ensures top { self.new.core.top ≡ self.old.core.top }
-        ensures place { pass.new.place ≡ pass.old.place }
-        ensures word { IsAlone throttle.now.place → pass.new.word ≡ word_framed (framed.Half result) pass.old.word (held self.old.core.live.granted) (held self.new.core.live.granted) }
+        ensures passes { ArePassesOf throttles.now passes.new }
+        ensures word { WordsFramed (framed.Half result) (record { throttles = throttles.now; before = passes.old; behind = passes.new }) (held self.old.core.live.granted) (held self.new.core.live.granted) }
     {
         match self.shake() {
             HalfStep::Fault(fault) => {
-                self.break_feed(throttle, pass, now);
+                self.break_feed(throttles, passes, now);
                 HalfStep::Fault(fault)
             }
             HalfStep::NotYet => HalfStep::NotYet,
@@ -107,19 +109,19 @@ impl<E: End> Record<E> {
     }
 
     /// Does what stands at the front of the feed, on which both sides have signed: it isn't at rest.
-    fn take_front(&mut self, throttle: &Throttle, pass: &mut TakePass, now: u64) -> Framed
+    fn take_front(&mut self, throttles: &Throttles, passes: &mut TakePasses, now: u64) -> Framed
         requires signed { OnFeedNow self.old.core.live.feed (λ v. is_framing v.reading ≡ true) }
         requires frame { has_frame self.old ≡ true }
         requires room { HasRoomFor 2 self.old.room }
-        requires pass { pass.old.place ≡ throttle.now.place }
-        requires owned { Owns throttle.now.place self.old }
-        ensures frames { Frames (record { throttle = throttle.now; before = pass.old; behind = pass.new }) result now self.old self.new }
-        ensures owned { Owns throttle.now.place self.new }
+        requires passes { ArePassesOf throttles.now passes.old }
+        requires owned { Owns (places throttles.now) self.old }
+        ensures frames { Frames (record { throttles = throttles.now; before = passes.old; behind = passes.new }) result now self.old self.new }
+        ensures owned { Owns (places throttles.now) self.new }
         ensures top { self.new.core.top ≡ self.old.core.top }
-        ensures place { pass.new.place ≡ pass.old.place }
-        ensures word { IsAlone throttle.now.place → pass.new.word ≡ word_framed result pass.old.word (held self.old.core.live.granted) (held self.new.core.live.granted) }
+        ensures passes { ArePassesOf throttles.now passes.new }
+        ensures word { WordsFramed result (record { throttles = throttles.now; before = passes.old; behind = passes.new }) (held self.old.core.live.granted) (held self.new.core.live.granted) }
     {
-        let framed = self.heed_front(throttle, pass, now);
+        let framed = self.heed_front(throttles, passes, now);
         match reset_in(&framed) {
             Some(full) => {
                 self.obey(full);
@@ -130,21 +132,21 @@ impl<E: End> Record<E> {
     }
 
     /// The same, but for a reset, of which nothing is done.
-    fn heed_front(&mut self, throttle: &Throttle, pass: &mut TakePass, now: u64) -> Framed
+    fn heed_front(&mut self, throttles: &Throttles, passes: &mut TakePasses, now: u64) -> Framed
         requires signed { OnFeedNow self.old.core.live.feed (λ v. is_framing v.reading ≡ true) }
         requires frame { has_frame self.old ≡ true }
         requires room { HasRoomFor 2 self.old.room }
-        requires pass { pass.old.place ≡ throttle.now.place }
-        requires owned { Owns throttle.now.place self.old }
-        ensures heeds { Heeds (record { throttle = throttle.now; before = pass.old; behind = pass.new }) result now self.old self.new }
+        requires passes { ArePassesOf throttles.now passes.old }
+        requires owned { Owns (places throttles.now) self.old }
+        ensures heeds { Heeds (record { throttles = throttles.now; before = passes.old; behind = passes.new }) result now self.old self.new }
         ensures reset { IsResetIf result self.new }
-        ensures owned { Owns throttle.now.place self.new }
+        ensures owned { Owns (places throttles.now) self.new }
         ensures top { self.new.core.top ≡ self.old.core.top }
-        ensures place { pass.new.place ≡ pass.old.place }
-        ensures word { IsAlone throttle.now.place → pass.new.word ≡ word_framed result pass.old.word (held self.old.core.live.granted) (held self.new.core.live.granted) }
+        ensures passes { ArePassesOf throttles.now passes.new }
+        ensures word { WordsFramed result (record { throttles = throttles.now; before = passes.old; behind = passes.new }) (held self.old.core.live.granted) (held self.new.core.live.granted) }
     {
         let old = self.core.session().phase;
-        let CoreFront { next, aftermath } = self.core.next(throttle, pass);
+        let CoreFront { next, aftermath } = self.core.next(throttles, passes);
         let framed = note_next(
             next,
             self.place,
@@ -175,7 +177,7 @@ impl<E: End> Record<E> {
         requires next { IsResetHeard full self.old.core }
         requires room { HasRoomFor 2 self.old.room }
         ensures obeys { Obeys full self.old self.new }
-        ensures owned { (place : Place) → Owns place self.old → Owns place self.new }
+        ensures owned { (places : Places) → Owns places self.old → Owns places self.new }
         ensures top { self.new.core.top ≡ self.old.core.top }
     {
         let aftermath = self.core.obey(full);
@@ -224,7 +226,7 @@ fn note_next(
                 life,
                 key,
                 message,
-                grant,
+                grants,
             } = accepted;
             journal.push_reserved(Entry::Accepted { number, key });
             parcels.push_back_reserved(Parcel::Letter(Letter {
@@ -233,14 +235,14 @@ fn note_next(
                 number,
                 life,
                 message,
-                grant,
+                grants,
             }));
             *last = now;
             Framed::Accepted { number }
         }
         CoreNext::Resets { full } => Framed::Obeyed { full },
-        CoreNext::Full { held } => Framed::Full { held },
-        CoreNext::Again { seen, now } => Framed::Again { seen, now },
+        CoreNext::Full { stage, held } => Framed::Full { stage, held },
+        CoreNext::Again { stage, seen, now } => Framed::Again { stage, seen, now },
         CoreNext::Fault(cause) => Framed::Faulted(cause),
         CoreNext::NoMemory => Framed::NoMemory,
     }

@@ -2,10 +2,9 @@
 
 ghost use Rattle.std.specs.Prelude.{◌≡◌, ◌-◌, ◌<◌, ◌≤◌, ◌&&◌, ◌++◌, true, false, option_map, vec_capacity, vec_len, IfSome, OnOk};
 ghost use Rattle.std.specs.Option.{is_none};
-ghost use Rattle.m2_core.specs.LiveNow.{held};
 ghost use Rattle.m2_core.specs.Judging.{IsVerdict, MayBeJudged, acceptance_text, verdict_on};
 ghost use Rattle.m2_session.specs.SessionLaws.{takes};
-ghost use Rattle.m2_shared.specs.Place.{IsAlone};
+ghost use Rattle.m2_shared.specs.Gates.{ArePassesOf, Return, Stay, held, places};
 ghost use Rattle.m2_trail.specs.Asks.{facts_of_ask};
 ghost use Rattle.m2_trail.specs.Trails.{trail_now};
 ghost use Rattle.m2_record.specs.Calls.{HasNoLess, HasRoomFor, IsSameButRoom, Owns};
@@ -18,7 +17,7 @@ use m2_core::Verdict;
 use m2_fabric::{End, SocketId};
 use m2_journal::Entry;
 use m2_session::Answer;
-use m2_shared::{TakePass, Throttle};
+use m2_shared::{TakePasses, Throttles};
 use m2_trail::{Arrival, Takeover};
 
 /// What judging an ask answered.
@@ -35,28 +34,28 @@ pub enum Judged<E: End> {
 impl<E: End> Record<E> {
     /// Judges the ask of an arrival, with the global number that was drawn for the answer. Whoever calls has
     /// found this record by the main address of the ask. Where the answer takes the socket, its end is the
-    /// feed, the old one is closed, what a throttle granted for it is given back, and what a reconnect has seen
+    /// feed, the old one is closed, what was granted for it is given back, and what a reconnect has seen
     /// is counted before a byte of the answer is put. Want of memory leaves all but the room as it was.
     pub fn judge(
         &mut self,
         a: Arrival<E>,
         number: u64,
-        throttle: &Throttle,
-        pass: &mut TakePass,
+        throttles: &Throttles,
+        passes: &mut TakePasses,
         now: u64,
     ) -> Judged<E>
         requires can { CanBeJudged a number self.old }
-        requires pass { pass.old.place ≡ throttle.now.place }
-        requires owned { Owns throttle.now.place self.old }
+        requires passes { ArePassesOf throttles.now passes.old }
+        requires owned { Owns (places throttles.now) self.old }
         ensures judges { IfSome a.ask (λ ask. JudgesAs result (verdict_on (facts_of_ask ask) number self.old.core.live) a now self.old self.new) }
-        ensures owned { Owns throttle.now.place self.new }
-        ensures place { pass.new.place ≡ pass.old.place }
-        ensures word { IsAlone throttle.now.place → pass.new.word ≡ pass.old.word - given_back result self.old.core.live.granted }
+        ensures owned { Owns (places throttles.now) self.new }
+        ensures passes { ArePassesOf throttles.now passes.new }
+        ensures word { Return (given_back result self.old.core.live.granted) throttles.now passes.old passes.new }
         ensures top { self.new.core.top ≤ number }
     {
         let mut a = a;
         match self.room_to_judge(&mut a) {
-            Ok(()) => self.judge_in_room(a, number, throttle, pass, now),
+            Ok(()) => self.judge_in_room(a, number, throttles, passes, now),
             Err(_) => Judged::NoMemory(a),
         }
     }
@@ -67,27 +66,27 @@ impl<E: End> Record<E> {
         &mut self,
         a: Arrival<E>,
         number: u64,
-        throttle: &Throttle,
-        pass: &mut TakePass,
+        throttles: &Throttles,
+        passes: &mut TakePasses,
         now: u64,
     ) -> Judged<E>
         requires can { CanBeJudged a number self.old }
         requires spare { 0 < a.room }
         requires room { HasRoomFor 3 self.old.room }
-        requires pass { pass.old.place ≡ throttle.now.place }
-        requires owned { Owns throttle.now.place self.old }
+        requires passes { ArePassesOf throttles.now passes.old }
+        requires owned { Owns (places throttles.now) self.old }
         ensures judges { IfSome a.ask (λ ask. JudgesAs result (verdict_on (facts_of_ask ask) number self.old.core.live) a now self.old self.new) }
-        ensures owned { Owns throttle.now.place self.new }
-        ensures place { pass.new.place ≡ pass.old.place }
-        ensures word { IsAlone throttle.now.place → pass.new.word ≡ pass.old.word - given_back result self.old.core.live.granted }
+        ensures owned { Owns (places throttles.now) self.new }
+        ensures passes { ArePassesOf throttles.now passes.new }
+        ensures word { Return (given_back result self.old.core.live.granted) throttles.now passes.old passes.new }
         ensures top { self.new.core.top ≤ number }
     {
         a.is_arrival();
         let verdict = self.core.verdict(&a.ask_facts(), number);
         if verdict.takes_socket() {
-            self.take(&verdict, a, throttle, pass, now)
+            self.take(&verdict, a, throttles, passes, now)
         } else {
-            self.give_back(&verdict, a, throttle, pass, now)
+            self.give_back(&verdict, a, throttles, passes, now)
         }
     }
 
@@ -97,8 +96,8 @@ impl<E: End> Record<E> {
         &mut self,
         v: &Verdict,
         a: Arrival<E>,
-        throttle: &Throttle,
-        pass: &mut TakePass,
+        throttles: &Throttles,
+        passes: &mut TakePasses,
         now: u64,
     ) -> Judged<E>
         requires verdict { IsVerdict v.now self.old.core }
@@ -108,15 +107,15 @@ impl<E: End> Record<E> {
         requires spare { 0 < a.room }
         requires socket { CanAskOn a.end.id self.old }
         requires room { HasRoomFor 2 self.old.room }
-        requires pass { pass.old.place ≡ throttle.now.place }
-        requires owned { Owns throttle.now.place self.old }
+        requires passes { ArePassesOf throttles.now passes.old }
+        requires owned { Owns (places throttles.now) self.old }
         ensures judges { JudgesAs result v.now a now self.old self.new }
-        ensures owned { Owns throttle.now.place self.new }
-        ensures place { pass.new.place ≡ pass.old.place }
-        ensures word { IsAlone throttle.now.place → pass.new.word ≡ pass.old.word - given_back result self.old.core.live.granted }
+        ensures owned { Owns (places throttles.now) self.new }
+        ensures passes { ArePassesOf throttles.now passes.new }
+        ensures word { Return (given_back result self.old.core.live.granted) throttles.now passes.old passes.new }
     {
         let mut a = a;
-        self.answer(v, a.id(), throttle, pass, now);
+        self.answer(v, a.id(), throttles, passes, now);
         a.note(v.answer);
         Judged::Back {
             answer: v.answer,
@@ -140,8 +139,8 @@ impl<E: End> Record<E> {
         &mut self,
         v: &Verdict,
         socket: SocketId,
-        throttle: &Throttle,
-        pass: &mut TakePass,
+        throttles: &Throttles,
+        passes: &mut TakePasses,
         now: u64,
     )
         requires verdict { IsVerdict v.now self.old.core }
@@ -149,12 +148,12 @@ impl<E: End> Record<E> {
         requires refuses { takes v.now.answer ≡ false }
         requires socket { CanAskOn socket self.old }
         requires room { HasRoomFor 2 self.old.room }
-        requires pass { pass.old.place ≡ throttle.now.place }
-        requires owned { Owns throttle.now.place self.old }
+        requires passes { ArePassesOf throttles.now passes.old }
+        requires owned { Owns (places throttles.now) self.old }
         ensures answers { Answers v.now socket now self.old self.new }
-        ensures owned { Owns throttle.now.place self.new }
-        ensures place { pass.new.place ≡ pass.old.place }
-        ensures word { IsAlone throttle.now.place → pass.new.word ≡ pass.old.word }
+        ensures owned { Owns (places throttles.now) self.new }
+        ensures passes { ArePassesOf throttles.now passes.new }
+        ensures word { Stay throttles.now passes.old passes.new }
     {
         self.journal.push_reserved(Entry::Judged {
             socket,
@@ -163,7 +162,7 @@ impl<E: End> Record<E> {
             answer: v.answer,
         });
         let old = self.core.session().phase;
-        let aftermath = self.core.answered(v, throttle, pass);
+        let aftermath = self.core.answered(v, throttles, passes);
         self.waits = self
             .waits
             .stepped(self.core.node(), now, old, self.core.session().phase);
@@ -183,8 +182,8 @@ impl<E: End> Record<E> {
         &mut self,
         v: &Verdict,
         a: Arrival<E>,
-        throttle: &Throttle,
-        pass: &mut TakePass,
+        throttles: &Throttles,
+        passes: &mut TakePasses,
         now: u64,
     ) -> Judged<E>
         requires verdict { IsVerdict v.now self.old.core }
@@ -194,12 +193,12 @@ impl<E: End> Record<E> {
         requires spare { 0 < a.room }
         requires half { CanBeTaken v.now (half_of v.now.answer a) self.old }
         requires room { HasRoomFor 3 self.old.room }
-        requires pass { pass.old.place ≡ throttle.now.place }
-        requires owned { Owns throttle.now.place self.old }
+        requires passes { ArePassesOf throttles.now passes.old }
+        requires owned { Owns (places throttles.now) self.old }
         ensures judges { JudgesAs result v.now a now self.old self.new }
-        ensures owned { Owns throttle.now.place self.new }
-        ensures place { pass.new.place ≡ pass.old.place }
-        ensures word { IsAlone throttle.now.place → pass.new.word ≡ pass.old.word - given_back result self.old.core.live.granted }
+        ensures owned { Owns (places throttles.now) self.new }
+        ensures passes { ArePassesOf throttles.now passes.new }
+        ensures word { Return (given_back result self.old.core.live.granted) throttles.now passes.old passes.new }
     {
         match self.room_to_take() {
             Ok(()) => {}
@@ -208,7 +207,7 @@ impl<E: End> Record<E> {
         match self.core.acceptance(v) {
             Ok(acceptance) => {
                 let half = a.take(v.answer);
-                self.take_and_count(v, half, acceptance, throttle, pass, now);
+                self.take_and_count(v, half, acceptance, throttles, passes, now);
                 Judged::Taken(v.answer)
             }
             Err(_) => Judged::NoMemory(a),
@@ -234,8 +233,8 @@ impl<E: End> Record<E> {
         v: &Verdict,
         half: Takeover<E>,
         acceptance: Blob,
-        throttle: &Throttle,
-        pass: &mut TakePass,
+        throttles: &Throttles,
+        passes: &mut TakePasses,
         now: u64,
     )
         requires verdict { IsVerdict v.now self.old.core }
@@ -248,14 +247,14 @@ impl<E: End> Record<E> {
         requires room { HasRoomFor 3 self.old.room }
         requires ends { 2 ≤ self.old.room.ends }
         requires trails { 0 < self.old.room.trails }
-        requires pass { pass.old.place ≡ throttle.now.place }
-        requires owned { Owns throttle.now.place self.old }
+        requires passes { ArePassesOf throttles.now passes.old }
+        requires owned { Owns (places throttles.now) self.old }
         ensures takes { TakesAndCounts v.now (record { end = E.seen half.end; unread = half.decoder.rest; trail = trail_now half.trail }) now self.old self.new }
-        ensures owned { Owns throttle.now.place self.new }
-        ensures place { pass.new.place ≡ pass.old.place }
-        ensures word { IsAlone throttle.now.place → pass.new.word ≡ pass.old.word - held self.old.core.live.granted }
+        ensures owned { Owns (places throttles.now) self.new }
+        ensures passes { ArePassesOf throttles.now passes.new }
+        ensures word { Return (held self.old.core.live.granted) throttles.now passes.old passes.new }
     {
-        self.take_over(v, half, acceptance, throttle, pass, now);
+        self.take_over(v, half, acceptance, throttles, passes, now);
         self.count_resumption();
     }
 
@@ -266,8 +265,8 @@ impl<E: End> Record<E> {
         v: &Verdict,
         half: Takeover<E>,
         acceptance: Blob,
-        throttle: &Throttle,
-        pass: &mut TakePass,
+        throttles: &Throttles,
+        passes: &mut TakePasses,
         now: u64,
     )
         requires verdict { IsVerdict v.now self.old.core }
@@ -280,13 +279,13 @@ impl<E: End> Record<E> {
         requires room { HasRoomFor 3 self.old.room }
         requires ends { 2 ≤ self.old.room.ends }
         requires trails { 0 < self.old.room.trails }
-        requires pass { pass.old.place ≡ throttle.now.place }
-        requires owned { Owns throttle.now.place self.old }
+        requires passes { ArePassesOf throttles.now passes.old }
+        requires owned { Owns (places throttles.now) self.old }
         ensures takes { TakesOver v.now (record { end = E.seen half.end; unread = half.decoder.rest; trail = trail_now half.trail }) now self.old self.new }
         ensures entries { 0 < self.new.room.entries }
-        ensures owned { Owns throttle.now.place self.new }
-        ensures place { pass.new.place ≡ pass.old.place }
-        ensures word { IsAlone throttle.now.place → pass.new.word ≡ pass.old.word - held self.old.core.live.granted }
+        ensures owned { Owns (places throttles.now) self.new }
+        ensures passes { ArePassesOf throttles.now passes.new }
+        ensures word { Return (held self.old.core.live.granted) throttles.now passes.old passes.new }
     {
         self.journal.push_reserved(Entry::Judged {
             socket: half.end.id(),
@@ -297,7 +296,7 @@ impl<E: End> Record<E> {
         let old = self.core.session().phase;
         let aftermath = self
             .core
-            .take_over(v, half.end, half.decoder, acceptance, throttle, pass);
+            .take_over(v, half.end, half.decoder, acceptance, throttles, passes);
         self.trails.push_reserved(half.trail);
         self.waits = self
             .waits

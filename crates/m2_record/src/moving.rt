@@ -2,8 +2,8 @@
 
 ghost use Rattle.std.specs.Prelude.{◌≡◌, ◌-◌, ◌<◌, ◌++◌, false};
 ghost use Rattle.m2_feed.specs.Calls.{is_empty};
-ghost use Rattle.m2_shared.specs.Place.{IsAlone};
-ghost use Rattle.m2_core.specs.LiveNow.{OnFeedNow, held};
+ghost use Rattle.m2_shared.specs.Gates.{ArePassesOf, Return, held, places};
+ghost use Rattle.m2_core.specs.LiveNow.{OnFeedNow};
 ghost use Rattle.m2_record.specs.Calls.{Breaks, FeedIsBroken, HasRoomFor, HasRoomToClose, IsBrokenFor, IsCounted, KeepsRoomFor, Owns, Writes, WritesFeedOnce, entries_put, fault_put, held_after, moment_after, returned_for, room_put};
 
 use crate::leaving::{put_closed, put_told};
@@ -11,7 +11,7 @@ use crate::record::Record;
 use m2_fabric::{End, SocketId};
 use m2_feed::FeedWrite;
 use m2_journal::{Entry, EntryList};
-use m2_shared::{TakePass, Throttle};
+use m2_shared::{TakePasses, Throttles};
 
 impl<E: End> Record<E> {
     /// Writes once to the feed's end what is composed there. Where bytes are put, they have their entry.
@@ -35,23 +35,23 @@ impl<E: End> Record<E> {
     /// entries and parcels are reserved.
     pub fn write_or_close(
         &mut self,
-        throttle: &Throttle,
-        pass: &mut TakePass,
+        throttles: &Throttles,
+        passes: &mut TakePasses,
         now: u64,
     ) -> FeedWrite
         requires feed { OnFeedNow self.old.core.live.feed (λ v. is_empty v.composed ≡ false) }
         requires room { HasRoomFor 2 self.old.room }
-        requires pass { pass.old.place ≡ throttle.now.place }
-        requires owned { Owns throttle.now.place self.old }
+        requires passes { ArePassesOf throttles.now passes.old }
+        requires owned { Owns (places throttles.now) self.old }
         ensures writes { Writes result now self.old self.new }
-        ensures owned { Owns throttle.now.place self.new }
-        ensures place { pass.new.place ≡ pass.old.place }
-        ensures word { IsAlone throttle.now.place → pass.new.word ≡ pass.old.word - returned_for (fault_put result) self.old }
+        ensures owned { Owns (places throttles.now) self.new }
+        ensures passes { ArePassesOf throttles.now passes.new }
+        ensures word { Return (returned_for (fault_put result) self.old) throttles.now passes.old passes.new }
     {
         let answer = self.write(now);
         match answer {
             FeedWrite::Failed => {
-                self.break_feed(throttle, pass, now);
+                self.break_feed(throttles, passes, now);
                 answer
             }
             _ => answer,
@@ -59,20 +59,20 @@ impl<E: End> Record<E> {
     }
 
     /// Closes the feed: its end has failed or ended, or the bytes that were got on it are a fault. What is
-    /// owed then is ready for the dispatcher, what a throttle granted for the feed is given back, and where
+    /// owed then is ready for the dispatcher, what was granted for the feed is given back, and where
     /// the phase becomes Wait, a wait begins. One entry and two parcels are reserved.
-    pub fn break_feed(&mut self, throttle: &Throttle, pass: &mut TakePass, now: u64)
+    pub fn break_feed(&mut self, throttles: &Throttles, passes: &mut TakePasses, now: u64)
         requires broken { FeedIsBroken self.old }
         requires room { HasRoomToClose self.old.room }
-        requires pass { pass.old.place ≡ throttle.now.place }
-        requires owned { Owns throttle.now.place self.old }
+        requires passes { ArePassesOf throttles.now passes.old }
+        requires owned { Owns (places throttles.now) self.old }
         ensures breaks { Breaks now self.old self.new }
-        ensures owned { Owns throttle.now.place self.new }
-        ensures place { pass.new.place ≡ pass.old.place }
-        ensures word { IsAlone throttle.now.place → pass.new.word ≡ pass.old.word - held self.old.core.live.granted }
+        ensures owned { Owns (places throttles.now) self.new }
+        ensures passes { ArePassesOf throttles.now passes.new }
+        ensures word { Return (held self.old.core.live.granted) throttles.now passes.old passes.new }
     {
         let old = self.core.session().phase;
-        let aftermath = self.core.fault(throttle, pass);
+        let aftermath = self.core.fault(throttles, passes);
         self.waits = self
             .waits
             .stepped(self.core.node(), now, old, self.core.session().phase);

@@ -1,7 +1,7 @@
 //! What a record lends.
 
 ghost use Rattle.std.specs.Prelude.{◌≡◌, map};
-ghost use Rattle.m2_core.specs.LiveNow.{held};
+ghost use Rattle.m2_shared.specs.Gates.{dispatch, held};
 ghost use Rattle.m2_record.specs.Due.{on_feed};
 ghost use Rattle.m2_record.specs.IsRecord.{IsRecord};
 ghost use Rattle.m2_record.specs.RecordNow.{IsSessionOf, composed_on, feed_end};
@@ -140,9 +140,9 @@ impl<E: End> Record<E> {
         self.core.accepted()
     }
 
-    /// How many bytes the throttle has granted for the message that is being read.
+    /// How many bytes the throttle of the dispatch has granted for the message that is being read.
     pub fn granted(&self) -> u64
-        ensures { result ≡ held self.now.core.live.granted }
+        ensures { result ≡ held self.now.core.live.granted dispatch }
     {
         self.core.granted()
     }

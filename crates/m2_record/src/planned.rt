@@ -1,8 +1,7 @@
 //! What a record does by its plan.
 
 ghost use Rattle.std.specs.Prelude.{◌≡◌, ◌+◌, ◌-◌, ◌^◌, ◌<◌, ◌≤◌, true, false, if◌then◌else◌, OnOk, OnErr};
-ghost use Rattle.m2_shared.specs.Place.{IsAlone};
-ghost use Rattle.m2_core.specs.LiveNow.{held};
+ghost use Rattle.m2_shared.specs.Gates.{ArePassesOf, Return, held, places};
 ghost use Rattle.m2_record.specs.Calls.{GoesDown, HasRoomFor, IsDialNext, IsPostNext, MayGoDown, Owns, PostsNext, TakesNext, is_down_next, returned_by, with_dial};
 ghost use Rattle.m2_record.specs.Due.{next_step};
 
@@ -11,7 +10,7 @@ use crate::record::Record;
 use m2_bytes::NoMemory;
 use m2_fabric::End;
 use m2_journal::{Entry, PlanStep};
-use m2_shared::{TakePass, Throttle};
+use m2_shared::{TakePasses, Throttles};
 
 impl<E: End> Record<E> {
     /// Takes the plan's next step, a post: a copy of its message is queued. Err is want of memory, and
@@ -48,20 +47,20 @@ impl<E: End> Record<E> {
         self.steps += 1;
     }
     /// Gives the session up: by the plan's next step (`planned`), or because a number that is needed is
-    /// above the greatest. What is owed then is ready for the dispatcher, and what a throttle granted for
+    /// above the greatest. What is owed then is ready for the dispatcher, and what was granted for
     /// the feed is given back.
-    pub(crate) fn go_down(&mut self, planned: bool, throttle: &Throttle, pass: &mut TakePass)
+    pub(crate) fn go_down(&mut self, planned: bool, throttles: &Throttles, passes: &mut TakePasses)
         requires may { MayGoDown planned self.old }
         requires room { HasRoomFor 2 self.old.room }
-        requires pass { pass.old.place ≡ throttle.now.place }
-        requires owned { Owns throttle.now.place self.old }
+        requires passes { ArePassesOf throttles.now passes.old }
+        requires owned { Owns (places throttles.now) self.old }
         ensures down { GoesDown planned self.old self.new }
-        ensures owned { Owns throttle.now.place self.new }
-        ensures place { pass.new.place ≡ pass.old.place }
-        ensures word { IsAlone throttle.now.place → pass.new.word ≡ pass.old.word - held self.old.core.live.granted }
+        ensures owned { Owns (places throttles.now) self.new }
+        ensures passes { ArePassesOf throttles.now passes.new }
+        ensures word { Return (held self.old.core.live.granted) throttles.now passes.old passes.new }
     {
         self.journal.push_reserved(Entry::Down { planned });
-        let aftermath = self.core.down(throttle, pass);
+        let aftermath = self.core.down(throttles, passes);
         self.held = false;
         self.steps = steps_taken(planned, self.steps);
         put_told(
@@ -76,17 +75,17 @@ impl<E: End> Record<E> {
     /// the copy of a message, and leaves all as it was.
     pub fn take_planned(
         &mut self,
-        throttle: &Throttle,
-        pass: &mut TakePass,
+        throttles: &Throttles,
+        passes: &mut TakePasses,
         now: u64,
     ) -> Result<(), NoMemory>
         requires room { HasRoomFor 2 self.old.room }
-        requires pass { pass.old.place ≡ throttle.now.place }
-        requires owned { Owns throttle.now.place self.old }
+        requires passes { ArePassesOf throttles.now passes.old }
+        requires owned { Owns (places throttles.now) self.old }
         ensures taken { TakesNext (next_step self.old) result now self.old self.new }
-        ensures owned { Owns throttle.now.place self.new }
-        ensures place { pass.new.place ≡ pass.old.place }
-        ensures word { IsAlone throttle.now.place → pass.new.word ≡ pass.old.word - returned_by (next_step self.old) self.old }
+        ensures owned { Owns (places throttles.now) self.new }
+        ensures passes { ArePassesOf throttles.now passes.new }
+        ensures word { Return (returned_by (next_step self.old) self.old) throttles.now passes.old passes.new }
     {
         match self.plan.get(self.steps as usize) {
             Some(PlanStep::Post(_)) => self.take_post(now),
@@ -95,7 +94,7 @@ impl<E: End> Record<E> {
                 Ok(())
             }
             Some(PlanStep::Down) => {
-                self.go_down(true, throttle, pass);
+                self.go_down(true, throttles, passes);
                 Ok(())
             }
             None => Ok(()),
@@ -104,18 +103,18 @@ impl<E: End> Record<E> {
 
     /// Gives the session up: by the plan, whose next step is Down, or because a number that is needed is
     /// above the greatest. Two entries and parcels are reserved.
-    pub fn down(&mut self, throttle: &Throttle, pass: &mut TakePass)
+    pub fn down(&mut self, throttles: &Throttles, passes: &mut TakePasses)
         requires may { MayGoDown (is_down_next (next_step self.old)) self.old }
         requires room { HasRoomFor 2 self.old.room }
-        requires pass { pass.old.place ≡ throttle.now.place }
-        requires owned { Owns throttle.now.place self.old }
+        requires passes { ArePassesOf throttles.now passes.old }
+        requires owned { Owns (places throttles.now) self.old }
         ensures down { GoesDown (is_down_next (next_step self.old)) self.old self.new }
-        ensures owned { Owns throttle.now.place self.new }
-        ensures place { pass.new.place ≡ pass.old.place }
-        ensures word { IsAlone throttle.now.place → pass.new.word ≡ pass.old.word - held self.old.core.live.granted }
+        ensures owned { Owns (places throttles.now) self.new }
+        ensures passes { ArePassesOf throttles.now passes.new }
+        ensures word { Return (held self.old.core.live.granted) throttles.now passes.old passes.new }
     {
         let planned = matches!(self.plan.get(self.steps as usize), Some(PlanStep::Down));
-        self.go_down(planned, throttle, pass);
+        self.go_down(planned, throttles, passes);
     }
 }
 

@@ -2,7 +2,7 @@
 
 ghost use Rattle.std.specs.Prelude.{◌≡◌, ◌-◌, ◌+◌, ◌<◌, ◌≤◌, ◌++◌, true};
 ghost use Rattle.std.specs.Option.{is_some};
-ghost use Rattle.m2_shared.specs.Place.{IsAlone, Place};
+ghost use Rattle.m2_shared.specs.Gates.{ArePassesOf, Places, Return, places};
 ghost use Rattle.m2_core.specs.LiveHearing.{raised_by};
 ghost use Rattle.m2_record.specs.Calls.{FitsClosing, HasRoomFor, IsBrokenFor, Owns, returned_for};
 ghost use Rattle.m2_record.specs.Reading.{CountsAnswer, FitsAnswer, IsReadCounted, Reads, ReadsFeedOnce, answer_heard, answer_read, entries_read, fault_heard, fault_read, held_read, moment_read, waits_read};
@@ -15,7 +15,7 @@ use m2_fabric::{End, EndRead, SocketId};
 use m2_feed::{AnswerFault, Heard, WireFault};
 use m2_journal::{Entry, EntryList, NodeFacts};
 use m2_session::Phase;
-use m2_shared::{NumberPass, Numbers, TakePass, Throttle};
+use m2_shared::{NumberPass, Numbers, TakePasses, Throttles};
 
 /// What a read of the feed gave.
 #[derive(Clone, Copy, Debug, PartialEq, Eq)]
@@ -37,25 +37,25 @@ impl<E: End> Record<E> {
         &mut self,
         numbers: &Numbers,
         number_pass: &mut NumberPass,
-        throttle: &Throttle,
-        take_pass: &mut TakePass,
+        throttles: &Throttles,
+        passes: &mut TakePasses,
         now: u64,
     ) -> RecordRead
         requires fed { is_some self.old.core.live.feed ≡ true }
         requires room { HasRoomFor 2 self.old.room }
         requires numbers { number_pass.old.place ≡ numbers.now.place }
-        requires takes { take_pass.old.place ≡ throttle.now.place }
-        requires owned { Owns throttle.now.place self.old }
+        requires takes { ArePassesOf throttles.now passes.old }
+        requires owned { Owns (places throttles.now) self.old }
         ensures reads { Reads result now self.old self.new }
         ensures raised { number_pass.new ≡ raised_by result.heard number_pass.old }
-        ensures owned { Owns throttle.now.place self.new }
-        ensures place { take_pass.new.place ≡ take_pass.old.place }
-        ensures word { IsAlone throttle.now.place → take_pass.new.word ≡ take_pass.old.word - returned_for (fault_read result) self.old }
+        ensures owned { Owns (places throttles.now) self.new }
+        ensures takes { ArePassesOf throttles.now passes.new }
+        ensures word { Return (returned_for (fault_read result) self.old) throttles.now passes.old passes.new }
     {
         let read = self.read_once(numbers, number_pass, now);
         match read.fault() {
             Some(_) => {
-                self.break_feed(throttle, take_pass, now);
+                self.break_feed(throttles, passes, now);
                 read
             }
             None => {
@@ -75,7 +75,7 @@ impl<E: End> Record<E> {
         ensures room { FitsClosing (fault_read result) self.new.room }
         ensures fits { FitsAnswer result.heard self.new.room.entries }
         ensures raised { pass.new ≡ raised_by result.heard pass.old }
-        ensures owned { (place : Place) → Owns place self.old → Owns place self.new }
+        ensures owned { (places : Places) → Owns places self.old → Owns places self.new }
     {
         let Some(feed) = self.core.feed() else {
             unreachable!()
@@ -110,7 +110,7 @@ impl<E: End> Record<E> {
     fn count_answer(&mut self, heard: Option<Heard>)
         requires room { FitsAnswer heard self.old.room.entries }
         ensures counts { CountsAnswer heard self.old self.new }
-        ensures owned { (place : Place) → Owns place self.old → Owns place self.new }
+        ensures owned { (places : Places) → Owns places self.old → Owns places self.new }
     {
         if let Some(Heard::ReconnectOk { seen: _ }) = heard {
             self.count_resumption();

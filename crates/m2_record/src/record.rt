@@ -14,6 +14,7 @@ use m2_dispatch::Parcel;
 use m2_fabric::End;
 use m2_journal::{EntryList, NodeFacts, PlanList, PlanStep};
 use m2_policy::Policy;
+use m2_shared::PeerType;
 use m2_trail::TrailList;
 use std::alloc::Global;
 use std::collections::VecDeque;
@@ -23,7 +24,7 @@ use std::marker::Model;
 pub const MOST_STEPS: usize = 0xFFFF_FFFF;
 
 /// One side of a session, with the journal of what it did. Contracts see it as one value, which is the
-/// replay of its journal. It can't be dropped, since what a throttle granted can't.
+/// replay of its journal. It can't be dropped, since what throttles have granted can't.
 pub struct Record<E: End> {
     /// The peer's place among the nodes, from 0.
     pub(crate) place: u32,
@@ -97,7 +98,7 @@ impl<E: End> Model for Record<E> {
 
 impl<E: End> Record<E> {
     /// A record towards this peer, with nothing planned and nothing done. `mine` is this node's address, and
-    /// `place` the peer's place among the nodes. Takes no memory.
+    /// `place` the peer's place among the nodes, and `peer_type` its type. Takes no memory.
     pub fn new(
         alloc: Global,
         mine: Addr,
@@ -105,11 +106,12 @@ impl<E: End> Record<E> {
         place: u32,
         policy: Policy,
         facts: NodeFacts,
+        peer_type: PeerType,
     ) -> Record<E>
         requires node { facts.number < MOST_PLACES }
         requires place { place < MOST_PLACES }
         requires waits { AreWaits facts }
-        ensures { result ≡ record (new_record (record { mine = mine; peer = peer; policy = policy; node = facts }) place) { room = result.room } }
+        ensures { result ≡ record (new_record (record { mine = mine; peer = peer; policy = policy; node = facts }) place peer_type) { room = result.room } }
     {
         Record {
             place,
@@ -118,7 +120,7 @@ impl<E: End> Record<E> {
             steps: 0,
             journal: EntryList::empty(alloc),
             trails: Items::empty(alloc),
-            core: Core::new(alloc, mine, peer, policy, facts),
+            core: Core::new(alloc, mine, peer, policy, facts, peer_type),
             spent: Vec::new(alloc),
             parcels: VecDeque::new(alloc),
             handed: Told::nothing(),

@@ -2,7 +2,7 @@
 
 ghost use Rattle.std.specs.Prelude.{◌≡◌, ◌-◌, ◌≤◌, true, false};
 ghost use Rattle.m2_handshake.specs.m2_control.declared.fields.TheConstants.{GREATEST_NUMBER};
-ghost use Rattle.m2_shared.specs.Place.{IsAlone};
+ghost use Rattle.m2_shared.specs.Gates.{ArePassesOf, Return, places};
 ghost use Rattle.m2_record.specs.Calls.{HasRoomFor, Owns};
 ghost use Rattle.m2_record.specs.Due.{has_parcel, has_plan, next_step};
 ghost use Rattle.m2_record.specs.declared.stepped.Stepped.TheVariants as stepped;
@@ -19,7 +19,7 @@ use m2_bytes::NoMemory;
 use m2_fabric::End;
 use m2_feed::{FeedWrite, WireFault};
 use m2_handshake::HalfStep;
-use m2_shared::{NumberPass, Numbers, TakePass, Throttle};
+use m2_shared::{NumberPass, Numbers, TakePasses, Throttles};
 
 impl<E: End> Record<E> {
     /// Takes the first step that is due at this moment, in the order of [`Due`]'s variants behind Nothing; at
@@ -32,25 +32,25 @@ impl<E: End> Record<E> {
     pub fn step(&mut self, work: &mut Work<'_>, now: u64) -> Stepped
         requires numbers { work.old.number_pass.now.place ≡ work.old.numbers.now.place }
         requires top { self.old.core.top ≤ work.old.number_pass.now.least }
-        requires takes { work.old.take_pass.now.place ≡ work.old.throttle.now.place }
-        requires owned { Owns work.old.throttle.now.place self.old }
+        requires takes { ArePassesOf work.old.throttles.now work.old.passes.now }
+        requires owned { Owns (places work.old.throttles.now) self.old }
         ensures steps { StepsAs result (worked now result work.old work.new) self.old self.new }
         ensures top { self.new.core.top ≤ work.new.number_pass.now.least }
         ensures reached { KeepsReached work.old.number_pass.now work.new.number_pass.now }
-        ensures owned { Owns work.old.throttle.now.place self.new }
-        ensures handed { IsHandedOwned work.old.throttle.now.place result }
+        ensures owned { Owns (places work.old.throttles.now) self.new }
+        ensures handed { IsHandedOwned (places work.old.throttles.now) result }
         ensures number_place { work.new.number_pass.now.place ≡ work.old.number_pass.now.place }
-        ensures take_place { work.new.take_pass.now.place ≡ work.old.take_pass.now.place }
+        ensures takes { ArePassesOf work.new.throttles.now work.new.passes.now }
         ensures same { IsSameWork work.old work.new }
         ensures number_pass { work.new.number_pass.ghost_name ≡ work.old.number_pass.ghost_name }
-        ensures take_pass { work.new.take_pass.ghost_name ≡ work.old.take_pass.ghost_name }
+        ensures passes { work.new.passes.ghost_name ≡ work.old.passes.ghost_name }
     {
         match self.reserve(2) {
             Ok(()) => self.take_due(
                 work.numbers,
                 work.number_pass,
-                work.throttle,
-                work.take_pass,
+                work.throttles,
+                work.passes,
                 now,
             ),
             Err(NoMemory) => Stepped::NoMemory,
@@ -62,28 +62,28 @@ impl<E: End> Record<E> {
         &mut self,
         numbers: &Numbers,
         number_pass: &mut NumberPass,
-        throttle: &Throttle,
-        take_pass: &mut TakePass,
+        throttles: &Throttles,
+        passes: &mut TakePasses,
         now: u64,
     ) -> Stepped
         requires room { HasRoomFor 2 self.old.room }
         requires numbers { number_pass.old.place ≡ numbers.now.place }
         requires top { self.old.core.top ≤ number_pass.old.least }
-        requires takes { take_pass.old.place ≡ throttle.now.place }
-        requires owned { Owns throttle.now.place self.old }
-        ensures due { TakesDue (record { now = now; answer = result; bytes = record { throttle = throttle.now; before = take_pass.old; behind = take_pass.new }; numbers = record { place = numbers.now.place; before = number_pass.old; behind = number_pass.new } }) self.old self.new }
+        requires takes { ArePassesOf throttles.now passes.old }
+        requires owned { Owns (places throttles.now) self.old }
+        ensures due { TakesDue (record { now = now; answer = result; bytes = record { throttles = throttles.now; before = passes.old; behind = passes.new }; numbers = record { place = numbers.now.place; before = number_pass.old; behind = number_pass.new } }) self.old self.new }
         ensures memory { IfMemory result (NothingDone self.old self.new) }
         ensures top { self.new.core.top ≤ number_pass.new.least }
-        ensures owned { Owns throttle.now.place self.new }
+        ensures owned { Owns (places throttles.now) self.new }
         ensures number_place { number_pass.new.place ≡ number_pass.old.place }
-        ensures take_place { take_pass.new.place ≡ take_pass.old.place }
+        ensures takes { ArePassesOf throttles.now passes.new }
     {
         match self.due(now) {
-            Due::Plan => answer_planned(self.step_plan(throttle, take_pass, now)),
+            Due::Plan => answer_planned(self.step_plan(throttles, passes, now)),
             Due::Hand => self.step_hand(),
-            Due::Write => answer_put(self.write_or_close(throttle, take_pass, now)),
-            Due::Frame => answer_framed(self.frame(throttle, take_pass, now)),
-            Due::Read => answer_read(self.read(numbers, number_pass, throttle, take_pass, now)),
+            Due::Write => answer_put(self.write_or_close(throttles, passes, now)),
+            Due::Frame => answer_framed(self.frame(throttles, passes, now)),
+            Due::Read => answer_read(self.read(numbers, number_pass, throttles, passes, now)),
             Due::Compose => {
                 self.top_fits();
                 answer_composed(self.compose(numbers, number_pass, now))
@@ -98,24 +98,24 @@ impl<E: End> Record<E> {
     /// it was.
     fn step_plan(
         &mut self,
-        throttle: &Throttle,
-        pass: &mut TakePass,
+        throttles: &Throttles,
+        passes: &mut TakePasses,
         now: u64,
     ) -> Result<(), NoMemory>
         requires due { has_plan self.old ≡ true }
         requires room { HasRoomFor 2 self.old.room }
-        requires pass { pass.old.place ≡ throttle.now.place }
-        requires owned { Owns throttle.now.place self.old }
+        requires passes { ArePassesOf throttles.now passes.old }
+        requires owned { Owns (places throttles.now) self.old }
         ensures plans { PlansAs (next_step self.old) result now self.old self.new }
-        ensures owned { Owns throttle.now.place self.new }
-        ensures place { pass.new.place ≡ pass.old.place }
-        ensures word { IsAlone throttle.now.place → pass.new.word ≡ pass.old.word - returned_planned (next_step self.old) self.old }
+        ensures owned { Owns (places throttles.now) self.new }
+        ensures passes { ArePassesOf throttles.now passes.new }
+        ensures word { Return (returned_planned (next_step self.old) self.old) throttles.now passes.old passes.new }
     {
         let is_left = self.plan.get(self.steps as usize).is_some();
         if is_left {
-            return self.take_planned(throttle, pass, now);
+            return self.take_planned(throttles, passes, now);
         }
-        self.down(throttle, pass);
+        self.down(throttles, passes);
         Ok(())
     }
 
@@ -180,8 +180,12 @@ fn answer_framed(framed: Framed) -> Stepped
         Framed::Half(HalfStep::Fault(e)) => Stepped::Faulted(WireFault::Half(e)),
         Framed::Half(HalfStep::NoMemory) => Stepped::NoMemory,
         Framed::Faulted(cause) => Stepped::Faulted(cause),
-        Framed::Full { held } => Stepped::Full { held },
-        Framed::Again { seen, now } => Stepped::Again { seen, now },
+        Framed::Full { stage, held } => Stepped::Full { stage, held },
+        Framed::Again { stage, seen, now } => Stepped::Again {
+            stage: Some(stage),
+            seen,
+            now,
+        },
         Framed::NoMemory => Stepped::NoMemory,
         _ => Stepped::Moved,
     }
@@ -193,7 +197,11 @@ fn answer_composed(composed: Composed) -> Stepped
 {
     match composed {
         Composed::Spent => Stepped::Spent,
-        Composed::Again { seen, now } => Stepped::Again { seen, now },
+        Composed::Again { seen, now } => Stepped::Again {
+            stage: None,
+            seen,
+            now,
+        },
         Composed::NoMemory => Stepped::NoMemory,
         _ => Stepped::Moved,
     }

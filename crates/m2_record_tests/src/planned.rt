@@ -8,6 +8,7 @@ ghost use Rattle.m2_record.specs.m2_core.Waits.{AreWaits};
 ghost use Rattle.m2_record.specs.Calls.{HasRoomFor, IsSameButRoom, Owns, TakesNext, planned_too};
 ghost use Rattle.m2_record.specs.Due.{next_step};
 ghost use Rattle.m2_record.specs.IsRecord.{CanBePlanned};
+ghost use Rattle.m2_shared.specs.Gates.{ArePassesOf, places};
 
 use m2_addr::Addr;
 use m2_bytes::Part;
@@ -17,7 +18,7 @@ use m2_journal::{Entry, NodeFacts, PlanStep};
 use m2_message::{Header, Message};
 use m2_policy::{FastSet, lossless_peer, profile};
 use m2_record::{Due, Framed, Record};
-use m2_shared::{TakePass, Throttle};
+use m2_shared::{Bounds, PeerType, TakePasses, Throttles};
 use std::alloc::Global;
 use std::process::Abort;
 
@@ -114,18 +115,18 @@ fn reserves(rt: &impl Abort, side: &mut Record<SimEnd>, entries: u32)
 fn takes(
     rt: &impl Abort,
     side: &mut Record<SimEnd>,
-    throttle: &Throttle,
-    pass: &mut TakePass,
+    throttles: &Throttles,
+    passes: &mut TakePasses,
     now: u64,
 )
     requires room { HasRoomFor 2 side.old.room }
-    requires pass { pass.old.place ≡ throttle.now.place }
-    requires owned { Owns throttle.now.place side.old }
+    requires pass { ArePassesOf throttles.now passes.old }
+    requires owned { Owns (places throttles.now) side.old }
     ensures taken { TakesNext (next_step side.old) (Ok tt) now side.old side.new }
-    ensures owned { Owns throttle.now.place side.new }
-    ensures place { pass.new.place ≡ pass.old.place }
+    ensures owned { Owns (places throttles.now) side.new }
+    ensures passes { ArePassesOf throttles.now passes.new }
 {
-    match side.take_planned(throttle, pass, now) {
+    match side.take_planned(throttles, passes, now) {
         Ok(()) => {}
         Err(_) => panic!(rt; "no memory for a step that is taken"),
     }
@@ -135,11 +136,19 @@ fn takes(
 #[test]
 fn a_post_is_queued_and_a_socket_is_opened_for_it(rt: HostRuntime) {
     let alloc = rt.alloc();
-    let (throttle, mut pass) = Throttle::alone(0);
-    let mut record = Record::new(alloc, at(1), at(2), 1, lossless_peer(), facts());
+    let (throttles, mut passes) = Throttles::alone(&Bounds::of_dispatch(0));
+    let mut record = Record::new(
+        alloc,
+        at(1),
+        at(2),
+        1,
+        lossless_peer(),
+        facts(),
+        PeerType::Osd,
+    );
     plans(&rt, &mut record, PlanStep::Post(message(alloc)));
     reserves(&rt, &mut record, 2);
-    takes(&rt, &mut record, &throttle, &mut pass, 5);
+    takes(&rt, &mut record, &throttles, &mut passes, 5);
     assert_eq!(rt; record.last(), 5);
     let due = record.due(5);
     if due
@@ -158,25 +167,25 @@ fn a_post_is_queued_and_a_socket_is_opened_for_it(rt: HostRuntime) {
     }
     assert!(rt; matches!(record.journal().get(1), Some(Entry::Opened { socket: _ })));
     assert!(rt; record.feed().is_some() && record.trails().is_empty());
-    let ends = record.ends(&throttle, &mut pass);
+    let ends = record.ends(&throttles, &mut passes);
     assert_eq!(rt; ends.len(), 1);
 }
 
 /// Takes the step Frame, where it is due.
 fn frames(
     side: &mut Record<SimEnd>,
-    throttle: &Throttle,
-    pass: &mut TakePass,
+    throttles: &Throttles,
+    passes: &mut TakePasses,
     now: u64,
 ) -> Option<Framed>
     requires room { HasRoomFor 2 side.old.room }
-    requires pass { pass.old.place ≡ throttle.now.place }
-    requires owned { Owns throttle.now.place side.old }
-    ensures owned { Owns throttle.now.place side.new }
-    ensures place { pass.new.place ≡ pass.old.place }
+    requires pass { ArePassesOf throttles.now passes.old }
+    requires owned { Owns (places throttles.now) side.old }
+    ensures owned { Owns (places throttles.now) side.new }
+    ensures passes { ArePassesOf throttles.now passes.new }
 {
     match side.due(now) {
-        Due::Frame => Some(side.frame(throttle, pass, now)),
+        Due::Frame => Some(side.frame(throttles, passes, now)),
         _ => None,
     }
 }
@@ -185,11 +194,19 @@ fn frames(
 #[test]
 fn a_half_writes_its_banner_first(rt: HostRuntime) {
     let alloc = rt.alloc();
-    let (throttle, mut pass) = Throttle::alone(0);
-    let mut record = Record::new(alloc, at(1), at(2), 1, lossless_peer(), facts());
+    let (throttles, mut passes) = Throttles::alone(&Bounds::of_dispatch(0));
+    let mut record = Record::new(
+        alloc,
+        at(1),
+        at(2),
+        1,
+        lossless_peer(),
+        facts(),
+        PeerType::Osd,
+    );
     plans(&rt, &mut record, PlanStep::Post(message(alloc)));
     reserves(&rt, &mut record, 2);
-    takes(&rt, &mut record, &throttle, &mut pass, 5);
+    takes(&rt, &mut record, &throttles, &mut passes, 5);
     let due = record.due(5);
     if due
         == (Due::Connect {
@@ -202,9 +219,9 @@ fn a_half_writes_its_banner_first(rt: HostRuntime) {
         }
     }
     reserves(&rt, &mut record, 2);
-    let framed = frames(&mut record, &throttle, &mut pass, 6);
+    let framed = frames(&mut record, &throttles, &mut passes, 6);
     assert!(rt; framed == Some(Framed::Half(HalfStep::Wrote)));
     assert!(rt; record.due(6) == Due::Write);
-    let ends = record.ends(&throttle, &mut pass);
+    let ends = record.ends(&throttles, &mut passes);
     assert_eq!(rt; ends.len(), 1);
 }

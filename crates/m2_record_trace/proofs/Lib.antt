@@ -1,4 +1,5 @@
 pub mod Accepting
+pub mod Alone
 pub mod Asked
 pub mod Logs
 pub mod Sockets

@@ -1,4 +1,5 @@
 -- A record stays supplied by what it works with.
+use Rattle.m2_shared.specs.Gates.{places}
 use Rattle.std.proofs.Common.{◌≡◌, ℕ, Bool, true, false, List, Option, Some, None, Ok, Err, sym, subst, cond}
 use Rattle.std.specs.Prelude.{IfSome, IsSome, Result}
 use Rattle.m2_fabric.specs.declared.end.News.{News}
@@ -38,7 +39,7 @@ supplied_room m old new e h = subst (IsSupplied m) (sym e) (record { owned = rec
 -- ---- a socket that was opened
 
 opened_at : (o : Option FeedNow) (end : SeenEnd) (m : Means) (old new : RecordNow) → IfSome o (λ v. IsOpening old.core.facts end v × (new ≡ record (with_opened v end.id old) { room = new.room })) → IsSome o → IsSupplied m old → IsSupplied m new
-opened_at (Some v) end m old new h s k = subst (IsSupplied m) (sym h.1) (record { owned = record { feed = tells-owned event.Dialled m.throttle.place old.core.live k.owned.feed; parcels = k.owned.parcels }; top = k.top })
+opened_at (Some v) end m old new h s k = subst (IsSupplied m) (sym h.1) (record { owned = record { feed = tells-owned event.Dialled (places m.throttles) old.core.live k.owned.feed; parcels = k.owned.parcels }; top = k.top })
 opened_at None end m old new h s k = absurd (false_isnt_true s)
 
 pub supplied_opened : (end : SeenEnd) (m : Means) (old new : RecordNow) → Connects end old new → IsSupplied m old → IsSupplied m new

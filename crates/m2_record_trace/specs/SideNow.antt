@@ -5,15 +5,17 @@ use Rattle.m2_dispatch.specs.declared.logged.Logged.{Logged}
 use Rattle.m2_fabric.specs.declared.socket.SocketId.{SocketId}
 use Rattle.m2_fabric.specs.End.{SeenEnd}
 use Rattle.m2_fabric.specs.Log.{Log}
-use Rattle.m2_record.specs.m2_core.LiveNow.{held}
 use Rattle.m2_journal.specs.SideFacts.{SideFacts}
 use Rattle.m2_shared.specs.declared.limits.TheConstants.{MOST_TAKEN}
 use Rattle.m2_shared.specs.Numbers.{SeenNumberPass, SeenNumbers}
 use Rattle.m2_shared.specs.Place.{IsAlone}
-use Rattle.m2_shared.specs.Throttle.{SeenTakePass, SeenThrottle}
+use Rattle.m2_shared.specs.Gates.{ArePassesOf, Gate, dispatch, places, throttle_in}
+use Rattle.m2_shared.specs.declared.peer_type.PeerType.TheVariants.{Osd}
+use Rattle.m2_shared.specs.declared.throttles.TakePasses.{TakePasses}
+use Rattle.m2_shared.specs.declared.throttles.Throttles.{Throttles}
 use Rattle.m2_trail.specs.Arrivals.{LooseNow, left_of}
 use Rattle.m2_trail.specs.Incoming.{IncomingNow, accepted}
-use Rattle.m2_record.specs.Calls.{Connects, Owns, all_granted}
+use Rattle.m2_record.specs.Calls.{Connects, Owns, all_held}
 use Rattle.m2_record.specs.IsRecord.{new_record}
 use Rattle.m2_record.specs.RecordNow.{RecordNow, Rooms, feed_end}
 use Rattle.m2_record.specs.Sources.{end_at}
@@ -21,7 +23,7 @@ use Rattle.m2_record.specs.Sources.{end_at}
 pub record SideNow : Type 0 where
   -- its record
   pub kept : RecordNow
-  -- the most bytes that its throttle lets out, and how many are out
+  -- the most bytes that the throttle of its dispatch lets out, and how many are out
   pub limit : ℕ
   pub out : ℕ
   -- the sockets of the peer that are open and not taken, and those that were closed and never taken
@@ -31,10 +33,10 @@ pub record SideNow : Type 0 where
   pub log : List Logged
   pub fast : List Logged
 
--- nothing planned, nothing done
+-- nothing planned, nothing done, towards an osd
 abbrev pub new_side : SideFacts → (place limit : ℕ) → Rooms → SideNow
 new_side f place limit room = record {
-  kept = record (new_record f place) { room = room };
+  kept = record (new_record f place Osd) { room = room };
   limit = limit;
   out = 0;
   halves = [];
@@ -45,26 +47,26 @@ new_side f place limit room = record {
 
 -- ---- what its type keeps
 
--- its counter of global numbers and its throttle, each with its pass
+-- its counter of global numbers and its throttles, with the passes
 pub record Means : Type 0 where
   pub numbers : SeenNumbers
   pub number_pass : SeenNumberPass
-  pub throttle : SeenThrottle
-  pub take_pass : SeenTakePass
+  pub throttles : Throttles
+  pub passes : TakePasses
 
--- Both are alone, and the passes are theirs. The throttle's bound is the limit, which one grant can hold.
+-- All are alone, and the passes are theirs. The bound of the dispatch is the limit, which one grant can hold.
 pub record AreAlone (m : Means) (limit : ℕ) : Type 0 where
   pub counter : IsAlone m.numbers.place
   pub number_pass : m.number_pass.place ≡ m.numbers.place
-  pub throttle : IsAlone m.throttle.place
-  pub take_pass : m.take_pass.place ≡ m.throttle.place
-  pub bound : m.throttle.most ≡ limit
+  pub throttles : (gate : Gate) → IsAlone (places m.throttles gate)
+  pub passes : ArePassesOf m.throttles m.passes
+  pub bound : (throttle_in m.throttles dispatch).most ≡ limit
   pub some : 0 < limit
   pub most : limit ≤ MOST_TAKEN
 
--- what the record holds was granted by the throttle, and no global number that it used is above those that were drawn
+-- what the record holds was granted by the throttles, and no global number that it used is above those that were drawn
 pub record IsSupplied (m : Means) (r : RecordNow) : Type 0 where
-  pub owned : Owns m.throttle.place r
+  pub owned : Owns (places m.throttles) r
   pub top : r.core.top ≤ m.number_pass.least
 
 pub record IsSide (m : Means) (limit : ℕ) (r : RecordNow) : Type 0 where
@@ -75,7 +77,7 @@ pub record IsSide (m : Means) (limit : ℕ) (r : RecordNow) : Type 0 where
 
 -- how many bytes are out once its record has given back what it holds
 abbrev pub left_out : SideNow → ℕ
-left_out s = s.out - held s.kept.core.live.granted - all_granted s.kept.parcels
+left_out s = s.out - all_held s.kept dispatch
 
 -- all but the room of its record is the same
 abbrev pub IsSameButRoom : SideNow → SideNow → Type 0

@@ -1,5 +1,6 @@
 -- What a step of a side does: a step of its record, and where that hands out a parcel, what its dispatchers are called with.
 -- This project's own.
+use Rattle.m2_shared.specs.Gates.{Gate, dispatch, words}
 use Rattle.std.specs.Prelude.{◌≡◌, ℕ, ◌-◌, Bool, true, false, List, [], ◌∷◌, ◌++◌}
 use Rattle.m2_dispatch.specs.declared.logged.Logged.{Logged}
 use Rattle.m2_dispatch.specs.declared.logged.Logged.TheVariants as logged
@@ -49,8 +50,8 @@ abbrev pub side_step : Stepped → SideStep
 side_step stepped.Moved = side.Moved
 side_step (stepped.Hand x) = side.Handed
 side_step stepped.Dry = side.Dry
-side_step (stepped.Full held) = side.Full held
-side_step (stepped.Again seen now) = side.Again
+side_step (stepped.Full stage held) = side.Full held
+side_step (stepped.Again stage seen now) = side.Again
 side_step stepped.Spent = side.Spent
 side_step (stepped.Faulted cause) = side.Faulted cause
 side_step stepped.NoMemory = side.NoMemory
@@ -63,10 +64,10 @@ abbrev pub fast_at : Stepped → List Logged
 fast_at (stepped.Hand x) = fast_of x
 fast_at answer = []
 
--- how many bytes are given back for what it hands out
-abbrev pub given_back : Stepped → ℕ
-given_back (stepped.Hand x) = granted_in x
-given_back answer = 0
+-- how much is given back for what it hands out
+abbrev pub given_back : Stepped → Gate → ℕ
+given_back (stepped.Hand x) gate = granted_in x gate
+given_back answer gate = 0
 
 -- something was done
 abbrev pub has_moved : SideStep → Bool
@@ -77,7 +78,7 @@ has_moved _ = false
 
 -- ---- a step
 
--- Its record takes a step at this moment, which answers so; a parcel that it hands out is dispatched, and its grant given back.
+-- Its record takes a step at this moment, which answers so; a parcel that it hands out is dispatched, and its grants given back.
 pub record TakesStep (answer : SideStep) (now : ℕ) (old new : SideNow) : Type 0 where
   pub stepped : Stepped
   pub worked : Worked
@@ -85,10 +86,10 @@ pub record TakesStep (answer : SideStep) (now : ℕ) (old new : SideNow) : Type 
   pub same : worked.answer ≡ stepped
   pub answers : answer ≡ side_step stepped
   pub steps : StepsAs stepped worked old.kept new.kept
-  pub before : worked.bytes.before.word ≡ old.out
+  pub before : words worked.bytes.before dispatch ≡ old.out
   pub only : new ≡ record old {
     kept = new.kept;
-    out = worked.bytes.behind.word - given_back stepped;
+    out = words worked.bytes.behind dispatch - given_back stepped dispatch;
     log = old.log ++ queued_at stepped;
     fast = old.fast ++ fast_at stepped;
   }

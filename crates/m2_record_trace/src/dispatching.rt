@@ -2,6 +2,8 @@
 
 ghost use Rattle.std.specs.Prelude.{◌≡◌, ◌-◌, ◌<◌, ◌≤◌, ◌++◌};
 ghost use Rattle.m2_shared.specs.Place.{IsAlone};
+ghost use Rattle.m2_shared.specs.Gates.{ArePassesOf, Gate, dispatch, held, places, words};
+ghost use Rattle.m2_dispatch.specs.Letters.{IsOwnedLetter};
 ghost use Rattle.m2_dispatch.specs.Parcel.{IsOwned};
 ghost use Rattle.m2_record.specs.Calls.{Owns, granted_in};
 ghost use Rattle.m2_record.specs.Stepping.{IsHandedOwned, StepsAs};
@@ -12,33 +14,33 @@ use m2_dispatch::{Letter, Logged, LoggedList, Parcel};
 use m2_fabric::SimEnd;
 use m2_policy::Path;
 use m2_record::{Record, Stepped, Work};
-use m2_shared::{NumberPass, Numbers, TakePass, Throttle};
+use m2_shared::{NumberPass, Numbers, TakePasses, Throttles};
 
-/// Takes the first step of a record that is due. A parcel that it hands out was granted by this throttle.
+/// Takes the first step of a record that is due. A parcel that it hands out was granted by these throttles.
 pub(crate) fn step_record(
     kept: &mut Record<SimEnd>,
     numbers: &Numbers,
     number_pass: &mut NumberPass,
-    throttle: &Throttle,
-    take_pass: &mut TakePass,
+    throttles: &Throttles,
+    passes: &mut TakePasses,
     now: u64,
 ) -> Stepped
     requires numbers { number_pass.old.place ≡ numbers.now.place }
     requires top { kept.old.core.top ≤ number_pass.old.least }
-    requires takes { take_pass.old.place ≡ throttle.now.place }
-    requires owned { Owns throttle.now.place kept.old }
-    ensures steps { StepsAs result (record { now = now; answer = result; bytes = record { throttle = throttle.now; before = take_pass.old; behind = take_pass.new }; numbers = record { place = numbers.now.place; before = number_pass.old; behind = number_pass.new } }) kept.old kept.new }
+    requires takes { ArePassesOf throttles.now passes.old }
+    requires owned { Owns (places throttles.now) kept.old }
+    ensures steps { StepsAs result (record { now = now; answer = result; bytes = record { throttles = throttles.now; before = passes.old; behind = passes.new }; numbers = record { place = numbers.now.place; before = number_pass.old; behind = number_pass.new } }) kept.old kept.new }
     ensures top { kept.new.core.top ≤ number_pass.new.least }
-    ensures owned { Owns throttle.now.place kept.new }
+    ensures owned { Owns (places throttles.now) kept.new }
     ensures number_place { number_pass.new.place ≡ number_pass.old.place }
-    ensures take_place { take_pass.new.place ≡ take_pass.old.place }
-    ensures handed { IsHandedOwned throttle.now.place result }
+    ensures takes { ArePassesOf throttles.now passes.new }
+    ensures handed { IsHandedOwned (places throttles.now) result }
 {
     let mut work = Work {
         numbers,
         number_pass,
-        throttle,
-        take_pass,
+        throttles,
+        passes,
     };
     kept.step(&mut work, now)
 }
@@ -47,31 +49,35 @@ pub(crate) fn step_record(
 /// step answered.
 pub(crate) fn dispatch(
     stepped: Stepped,
-    throttle: &Throttle,
-    pass: &mut TakePass,
+    throttles: &Throttles,
+    passes: &mut TakePasses,
     log: &mut LoggedList,
     fast: &mut LoggedList,
 ) -> SideStep
-    requires pass { pass.old.place ≡ throttle.now.place }
-    requires alone { IsAlone throttle.now.place }
-    requires owned { IsHandedOwned throttle.now.place stepped }
+    requires passes { ArePassesOf throttles.now passes.old }
+    requires alone { (gate : Gate) → IsAlone (places throttles.now gate) }
+    requires owned { IsHandedOwned (places throttles.now) stepped }
     requires log { 0 < log.old.room }
     requires fast { 0 < fast.old.room }
     ensures answer { result ≡ side_step stepped }
     ensures log { log.new.items ≡ log.old.items ++ queued_at stepped }
     ensures fast { fast.new.items ≡ fast.old.items ++ fast_at stepped }
-    ensures place { pass.new.place ≡ pass.old.place }
-    ensures word { pass.new.word ≡ pass.old.word - given_back stepped }
+    ensures passes { ArePassesOf throttles.now passes.new }
+    ensures word { words passes.new dispatch ≡ words passes.old dispatch - given_back stepped dispatch }
 {
     match stepped {
         Stepped::Moved => SideStep::Moved,
         Stepped::Hand(parcel) => {
-            dispatch_parcel(parcel, throttle, pass, log, fast);
+            dispatch_parcel(parcel, throttles, passes, log, fast);
             SideStep::Handed
         }
         Stepped::Dry => SideStep::Dry,
-        Stepped::Full { held } => SideStep::Full { held },
-        Stepped::Again { seen: _, now: _ } => SideStep::Again,
+        Stepped::Full { stage: _, held } => SideStep::Full { held },
+        Stepped::Again {
+            stage: _,
+            seen: _,
+            now: _,
+        } => SideStep::Again,
         Stepped::Spent => SideStep::Spent,
         Stepped::Faulted(cause) => SideStep::Faulted(cause),
         Stepped::NoMemory => SideStep::NoMemory,
@@ -81,23 +87,23 @@ pub(crate) fn dispatch(
 /// The same of a parcel.
 fn dispatch_parcel(
     parcel: Parcel,
-    throttle: &Throttle,
-    pass: &mut TakePass,
+    throttles: &Throttles,
+    passes: &mut TakePasses,
     log: &mut LoggedList,
     fast: &mut LoggedList,
 )
-    requires pass { pass.old.place ≡ throttle.now.place }
-    requires alone { IsAlone throttle.now.place }
-    requires owned { IsOwned throttle.now.place parcel }
+    requires passes { ArePassesOf throttles.now passes.old }
+    requires alone { (gate : Gate) → IsAlone (places throttles.now gate) }
+    requires owned { IsOwned (places throttles.now) parcel }
     requires log { 0 < log.old.room }
     requires fast { 0 < fast.old.room }
     ensures log { log.new.items ≡ log.old.items ++ queued_of parcel }
     ensures fast { fast.new.items ≡ fast.old.items ++ fast_of parcel }
-    ensures place { pass.new.place ≡ pass.old.place }
-    ensures word { pass.new.word ≡ pass.old.word - granted_in parcel }
+    ensures passes { ArePassesOf throttles.now passes.new }
+    ensures word { words passes.new dispatch ≡ words passes.old dispatch - granted_in parcel dispatch }
 {
     match parcel {
-        Parcel::Letter(letter) => dispatch_letter(letter, throttle, pass, log, fast),
+        Parcel::Letter(letter) => dispatch_letter(letter, throttles, passes, log, fast),
         Parcel::Discard { peer: _ } => {}
         Parcel::RemoteReset { peer } => log.push_reserved(Logged::Reset { peer }),
     }
@@ -106,20 +112,20 @@ fn dispatch_parcel(
 /// The same of a letter.
 fn dispatch_letter(
     letter: Letter,
-    throttle: &Throttle,
-    pass: &mut TakePass,
+    throttles: &Throttles,
+    passes: &mut TakePasses,
     log: &mut LoggedList,
     fast: &mut LoggedList,
 )
-    requires pass { pass.old.place ≡ throttle.now.place }
-    requires alone { IsAlone throttle.now.place }
-    requires owned { letter.grant.place ≡ throttle.now.place }
+    requires passes { ArePassesOf throttles.now passes.old }
+    requires alone { (gate : Gate) → IsAlone (places throttles.now gate) }
+    requires owned { IsOwnedLetter (places throttles.now) letter }
     requires log { 0 < log.old.room }
     requires fast { 0 < fast.old.room }
     ensures log { log.new.items ≡ log.old.items ++ queued_by letter.key.path (call_of letter) }
     ensures fast { fast.new.items ≡ fast.old.items ++ fast_by letter.key.path (call_of letter) }
-    ensures place { pass.new.place ≡ pass.old.place }
-    ensures word { pass.new.word ≡ pass.old.word - letter.grant.n }
+    ensures passes { ArePassesOf throttles.now passes.new }
+    ensures word { words passes.new dispatch ≡ words passes.old dispatch - held letter.grants dispatch }
 {
     let Letter {
         peer,
@@ -127,9 +133,9 @@ fn dispatch_letter(
         number,
         life,
         message,
-        grant,
+        grants,
     } = letter;
-    throttle.give(pass, grant);
+    grants.back(throttles, passes);
     let call = Logged::Message {
         peer,
         key,

@@ -53,7 +53,7 @@ impl Side {
         };
         match self
             .record
-            .judge(arrival, number, &self.throttle, &mut self.take_pass, now)
+            .judge(arrival, number, &self.throttles, &mut self.passes, now)
         {
             Judged::Taken(_) => HalfLeft::Taken,
             Judged::Back { answer, arrival } => replied(arrival, &answer),

@@ -27,12 +27,12 @@ use m2_journal::{NodeFacts, PlanStep};
 use m2_message::{MOST_PART, Message};
 use m2_policy::Policy;
 use m2_record::Record;
-use m2_shared::{NumberPass, Numbers, Take, TakePass, Throttle};
+use m2_shared::{Bounds, NumberPass, Numbers, PeerType, TakePasses, Throttles};
 use m2_trail::{Incoming, Loose, LooseList};
 use std::alloc::Global;
 use std::marker::Model;
 
-/// A side of a pair: a record over ends in memory, with a counter of global numbers and a throttle of its own; the sockets of
+/// A side of a pair: a record over ends in memory, with a counter of global numbers and throttles of its own; the sockets of
 /// the peer that it has accepted and not taken; and the calls of its dispatchers, which take each parcel at once.
 ///
 /// Maker: [`new`](Side::new). Readers: [`record`](Side::record), [`halves`](Side::halves), [`loose`](Side::loose),
@@ -41,12 +41,12 @@ use std::marker::Model;
 pub struct Side {
     pub(crate) alloc: Global,
     pub(crate) record: Record<SimEnd>,
-    /// The bound of its throttle.
+    /// The bound of its dispatch.
     pub(crate) limit: u64,
     pub(crate) numbers: Numbers,
     pub(crate) number_pass: NumberPass,
-    pub(crate) throttle: Throttle,
-    pub(crate) take_pass: TakePass,
+    pub(crate) throttles: Throttles,
+    pub(crate) passes: TakePasses,
     /// The sockets of the peer that are open and not taken.
     pub(crate) halves: Vec<Incoming<SimEnd>>,
     /// Those that were closed or left, and never taken.
@@ -59,6 +59,7 @@ pub struct Side {
 }
 
 impl Model for Side {
+    ghost use Rattle.m2_shared.specs.Gates.{dispatch, words};
     ghost use Rattle.m2_record_trace.specs.SideNow.{IsSide, SideNow};
 
     ghost Value = { SideNow };
@@ -66,19 +67,19 @@ impl Model for Side {
     ghost view = { λ s. record {
       kept = s.record;
       limit = s.limit;
-      out = s.take_pass.word;
+      out = words s.passes dispatch;
       halves = s.halves.items;
       loose = s.loose.items;
       log = s.log.items;
       fast = s.fast.items;
     } };
 
-    ghost invariant = { λ s. IsSide (record { numbers = s.numbers; number_pass = s.number_pass; throttle = s.throttle; take_pass = s.take_pass }) s.limit s.record };
+    ghost invariant = { λ s. IsSide (record { numbers = s.numbers; number_pass = s.number_pass; throttles = s.throttles; passes = s.passes }) s.limit s.record };
 }
 
 impl Side {
     /// A side towards this peer, of which nothing is planned. `mine` is its node's address, `place` the peer's place among the
-    /// nodes, and `limit` the most bytes that its throttle lets out.
+    /// nodes, and `limit` the most bytes that its dispatch lets out.
     pub fn new(
         alloc: Global,
         mine: Addr,
@@ -96,15 +97,15 @@ impl Side {
         ensures { result ≡ new_side (record { mine = mine; peer = peer; policy = policy; node = facts }) place limit result.kept.room }
     {
         let (numbers, number_pass) = Numbers::alone();
-        let (throttle, take_pass) = Throttle::alone(limit);
+        let (throttles, passes) = Throttles::alone(&Bounds::of_dispatch(limit));
         Side {
             alloc,
-            record: Record::new(alloc, mine, peer, place, policy, facts),
+            record: Record::new(alloc, mine, peer, place, policy, facts, PeerType::Osd),
             limit,
             numbers,
             number_pass,
-            throttle,
-            take_pass,
+            throttles,
+            passes,
             halves: Vec::new(alloc),
             loose: Items::empty(alloc),
             log: Items::empty(alloc),
@@ -148,18 +149,20 @@ impl Side {
         &self.fast
     }
 
-    /// How many bytes its throttle has granted that aren't back.
+    /// How many bytes the throttle of its dispatch has granted that aren't back.
     pub fn out(&mut self) -> u64
         ensures out { result ≡ self.old.out }
         ensures same { self.new ≡ self.old }
     {
-        match self.throttle.try_take(&mut self.take_pass, self.limit) {
-            Take::Grant(grant) => {
-                self.throttle.give(&mut self.take_pass, grant);
-                0
-            }
-            Take::Full { held } => held,
-            Take::Again { seen: _, now } => now,
+        self.bytes_out()
+    }
+
+    fn bytes_out(&self) -> u64
+        ensures { result ≡ self.now.out }
+    {
+        match self.passes.dispatch.out() {
+            Some(out) => out,
+            None => unreachable!(),
         }
     }
 
@@ -187,14 +190,14 @@ impl Side {
             &mut self.record,
             &self.numbers,
             &mut self.number_pass,
-            &self.throttle,
-            &mut self.take_pass,
+            &self.throttles,
+            &mut self.passes,
             now,
         );
         dispatch(
             stepped,
-            &self.throttle,
-            &mut self.take_pass,
+            &self.throttles,
+            &mut self.passes,
             &mut self.log,
             &mut self.fast,
         )
@@ -253,7 +256,7 @@ impl Side {
         leave_all(halves, loose);
     }
 
-    /// Ends the record, which gives back what it holds. How many bytes its throttle has granted that aren't back.
+    /// Ends the record, which gives back what it holds. How many bytes the throttle of its dispatch has granted that aren't back.
     pub(crate) fn finish(self) -> u64
         ensures { result ≡ left_out self }
     {
@@ -263,16 +266,16 @@ impl Side {
             limit: _,
             numbers: _,
             number_pass: _,
-            throttle,
-            mut take_pass,
+            throttles,
+            mut passes,
             halves: _,
             loose: _,
             log: _,
             fast: _,
             opened: _,
         } = self;
-        let _ends = record.ends(&throttle, &mut take_pass);
-        throttle.close(take_pass)
+        let _ends = record.ends(&throttles, &mut passes);
+        throttles.close(passes)
     }
 }
 

@@ -178,8 +178,8 @@ gone_round E C may_give turns polls waiting clock from now nodes old mid new lat
   where
     turn : (n m : RunNodeNow) → NodeTurnsSo E now n m → NodeGoesOn (may_give clock) from now true n m
     turn n m t = record {
-      each = steps_then {R = TurnsSo E now n.numbers n.throttle} {S = IsSame}
-          (λ a b c r same. subst (λ (z : CenterNow (List Logged)). GoesOn (may_give clock) from now true a z) same (turns clock from now n.numbers n.throttle a b r given later))
+      each = steps_then {R = TurnsSo E now n.numbers n.throttles} {S = IsSame}
+          (λ a b c r same. subst (λ (z : CenterNow (List Logged)). GoesOn (may_give clock) from now true a z) same (turns clock from now n.numbers n.throttles a b r given later))
           n.centers m.centers m.centers t.each (step_not IsSame (λ a. refl) m.centers);
       shared = t.shared;
     }

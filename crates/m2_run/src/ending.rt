@@ -34,7 +34,7 @@ use m2_node::{
     CenterRest, NodeDispatcher, NodeShared, Passes, Record, Rights, RunCenter, RunEnd, RunNode,
     RunPort, clear_centers, clear_nodes, end_records,
 };
-use m2_shared::{TakePass, Throttle};
+use m2_shared::{TakePasses, Throttles};
 use m2_trail::{Loose, LooseList};
 use std::alloc::Global;
 use std::marker::Model;
@@ -52,13 +52,13 @@ pub struct EndedCenter<'s, P: Port> {
     pub(crate) records: Vec<Record<ThreadEnd<P::End>>>,
     pub(crate) fast: LoggedList,
     pub(crate) queued: LoggedList,
-    pub(crate) throttle: &'s Throttle,
-    pub(crate) pass: TakePass,
+    pub(crate) throttles: &'s Throttles,
+    pub(crate) passes: TakePasses,
 }
 
 impl<'s, P: Port> Model for EndedCenter<'s, P> {
-    ghost use Rattle.std.specs.Prelude.{◌≡◌};
     ghost use Rattle.std.specs.Option.{option_map};
+    ghost use Rattle.m2_dispatch.specs.m2_shared.Gates.{ArePassesOf, places};
     ghost use Rattle.m2_run.specs.Rests.{EndedCenterNow};
     ghost use Rattle.m2_node.specs.m2_script.m2_center.Finishing.{AllOwn};
 
@@ -66,7 +66,7 @@ impl<'s, P: Port> Model for EndedCenter<'s, P> {
 
     ghost view = { λ e. record { port = option_map P.seen e.port; made = e.made.items; records = e.records.items; fast = e.fast.items; queued = e.queued.items } };
 
-    ghost invariant = { λ e. (e.pass.place ≡ e.throttle.now.place) × AllOwn e.throttle.now.place e.records.items };
+    ghost invariant = { λ e. ArePassesOf e.throttles.now e.passes × AllOwn (places e.throttles.now) e.records.items };
 }
 
 impl<'s, P: Port> EndedCenter<'s, P> {
@@ -269,7 +269,7 @@ fn end_centers<'s, P: Port, R: Wait + Copy, B: Inboxes<P::End>>(
     ended: &mut Opened<'s, P>,
     number: usize,
 ) -> Result<(), NoMemory>
-    requires { AllByRecursion (IsServedBy shared.now.numbers shared.now.throttle) centers.items }
+    requires { AllByRecursion (IsServedBy shared.now.numbers shared.now.throttles) centers.items }
     ensures ends { OnOk result (EndsCenters cuts.now (slice_get B.inboxes) number centers.entry.items ended.old ended.new) }
     ensures types { OnOk result (AllByRecursion IsCenterOfTypes centers.entry.items) }
 {
@@ -303,7 +303,7 @@ fn end_center<'s, P: Port, R: Wait + Copy, B: Inboxes<P::End>>(
     rights: &mut Rights<P::End>,
     number: usize,
 ) -> Result<EndedCenter<'s, P>, NoMemory>
-    requires { IsServedBy shared.now.numbers shared.now.throttle center }
+    requires { IsServedBy shared.now.numbers shared.now.throttles center }
     ensures ends { IfOk result (λ d. EndsCenter cuts.now (slice_get B.inboxes) number center.entry d
         (record { left = left.old; puts = rights.old.puts.items; gets = rights.old.gets.items })
         (record { left = left.new; puts = rights.new.puts.items; gets = rights.new.gets.items })) }
@@ -320,13 +320,13 @@ fn end_center<'s, P: Port, R: Wait + Copy, B: Inboxes<P::End>>(
     } = center.finished();
     let Passes {
         numbers: _,
-        throttle: mut pass,
+        throttles: mut own,
     } = passes;
-    let fast = out.clear(&shared.throttle, &mut pass).into_log();
-    let queued = queued.finish(&shared.throttle, &mut pass).into_log();
+    let fast = out.clear(&shared.throttles, &mut own).into_log();
+    let queued = queued.finish(&shared.throttles, &mut own).into_log();
     match end_sockets(alloc, cuts, port, loose, left, rights, number) {
         Err(NoMemory) => {
-            end_records(records, &shared.throttle, &mut pass);
+            end_records(records, &shared.throttles, &mut own);
             Err(NoMemory)
         }
         Ok(EndedPort { port, made }) => Ok(EndedCenter {
@@ -335,8 +335,8 @@ fn end_center<'s, P: Port, R: Wait + Copy, B: Inboxes<P::End>>(
             records,
             fast,
             queued,
-            throttle: &shared.throttle,
-            pass,
+            throttles: &shared.throttles,
+            passes: own,
         }),
     }
 }
@@ -657,10 +657,10 @@ pub(crate) fn throw_away_centers<P: Port>(mut centers: Vec<EndedCenter<'_, P>>) 
             records,
             fast: _,
             queued: _,
-            throttle,
-            mut pass,
+            throttles,
+            mut passes,
         } = center;
-        end_records(records, throttle, &mut pass);
+        end_records(records, throttles, &mut passes);
     }
     centers.destroy_empty();
 }

@@ -4,6 +4,7 @@ ghost use Rattle.std.specs.Prelude.{◌≡◌, ◌++◌, ◌∷◌, [], ◌<◌,
 ghost use Rattle.std.specs.List.{flat_map};
 ghost use Rattle.std.specs.Option.{option_map, option_to_list};
 ghost use Rattle.std.specs.Vec.Iter.{into_iter_items};
+ghost use Rattle.m2_dispatch.specs.m2_shared.Gates.{ArePassesOf, places};
 ghost use Rattle.m2_node.specs.m2_script.m2_center.Finishing.{AllOwn};
 ghost use Rattle.m2_handover.specs.End.{shown, told_nothing};
 ghost use Rattle.m2_run.specs.Cuts.{IsEndOver, bound_of};
@@ -24,7 +25,7 @@ use m2_fabric::{Cut, CutList, End, Fabric, Port, SocketId};
 use m2_handover::HandedEnd;
 use m2_node::Record;
 use m2_scenario::{LogsList, Node};
-use m2_shared::{TakePass, Throttle};
+use m2_shared::{TakePasses, Throttles};
 use m2_trail::{Loose, LooseList};
 use std::alloc::Global;
 use std::marker::Model;
@@ -182,13 +183,13 @@ fn give_center<P: Port>(
         records,
         fast,
         queued: _,
-        throttle,
-        mut pass,
+        throttles,
+        passes,
     } = center;
     give_records(
         records,
-        throttle,
-        &mut pass,
+        throttles,
+        passes,
         cuts,
         made.as_slice(),
         &mut into.ends,
@@ -200,21 +201,20 @@ fn give_center<P: Port>(
 /// Ends these records, and puts the ends inside their ends last, in order. Err is want of memory; they are ended then too.
 fn give_records<E: End>(
     mut records: Vec<Record<ThreadEnd<E>>>,
-    throttle: &Throttle,
-    pass: &mut TakePass,
+    throttles: &Throttles,
+    mut passes: TakePasses,
     cuts: &[Cut],
     made: &[SocketId],
     into: &mut Vec<E>,
 ) -> Result<(), NoMemory>
-    requires pass { pass.old.place ≡ throttle.now.place }
-    requires owned { AllOwn throttle.now.place records.items }
-    ensures given { OnOk result (Opens cuts.now made.now (flat_map ends_of_record records.items) (map E.seen into.old.items) (map E.seen into.new.items)) }
-    ensures place { pass.new.place ≡ pass.old.place }
+    requires passes { ArePassesOf throttles.now passes }
+    requires owned { AllOwn (places throttles.now) records.items }
+    ensures { OnOk result (Opens cuts.now made.now (flat_map ends_of_record records.items) (map E.seen into.old.items) (map E.seen into.new.items)) }
 {
     records.reverse();
     let mut given = Ok(());
     'records: while let Some(side) = records.pop() {
-        let ends = side.ends(throttle, pass);
+        let ends = side.ends(throttles, &mut passes);
         given = give_ends(given, ends, cuts, made, into);
     }
     records.destroy_empty();

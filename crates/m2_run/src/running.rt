@@ -46,7 +46,7 @@ use m2_node::{
     posts_that_count, rights_of, rooms_of, shared_by, work_out,
 };
 use m2_scenario::{Line, LineList, Link, LogsList, Node};
-use m2_shared::TakePass;
+use m2_shared::TakePasses;
 use std::alloc::Global;
 use std::marker::Brand;
 use std::sync::Wait;
@@ -341,7 +341,7 @@ fn play_out<'s, R, P, C, G, B>(
     begun: Begun<'s, HomePort<'_, P, R, B>>,
     rests: &[AtomicBool],
     shares: &'s [Shares],
-    rights: Vec<TakePass>,
+    rights: Vec<TakePasses>,
     posts: u64,
     limit: u64,
     clock: &C,
@@ -399,7 +399,7 @@ fn play<'s, R, P, C, G>(
     begun: Begun<'s, P>,
     rests: &[AtomicBool],
     shares: &'s [Shares],
-    rights: Vec<TakePass>,
+    rights: Vec<TakePasses>,
     posts: u64,
     limit: u64,
     clock: &C,

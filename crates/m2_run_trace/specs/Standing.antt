@@ -1,7 +1,7 @@
 -- Where the records of a node stand, as lines. This project's own.
 use Rattle.std.specs.Prelude.{ℕ, zero, suc, ◌+◌, ◌==◌, ◌&&◌, Bool, true, false, not, if◌then◌else◌, List, [], ◌++◌, codes, length, slice_get, Option, Some}
 use Rattle.m2_dispatch.specs.m2_queues.OutQueues.{last_number}
-use Rattle.m2_promise.specs.m2_script.m2_record.m2_core.LiveNow.{held}
+use Rattle.m2_dispatch.specs.m2_shared.Gates.{dispatch, held}
 use Rattle.m2_promise.specs.m2_script.m2_record.RecordNow.{RecordNow}
 use Rattle.m2_run_trace.specs.declared.standing.Counts.{Counts}
 use Rattle.m2_run_trace.specs.declared.standing.SessionMark.{SessionMark}
@@ -17,7 +17,7 @@ use Rattle.m2_trace.specs.Words.{Text, number_word}
 abbrev pub counts_of : RecordNow → Counts
 counts_of r = record {
   accepted = r.core.live.last;
-  granted = held r.core.live.granted;
+  granted = held r.core.live.granted dispatch;
   acked = r.core.live.out.queue.base;
   last = last_number r.core.live.out.queue;
   waiting = length r.core.live.out.queue.waiting;

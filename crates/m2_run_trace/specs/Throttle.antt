@@ -8,7 +8,7 @@ use Rattle.m2_trace.specs.Words.{Text, number_word}
 
 -- how many bytes are granted and not given back; of a throttle that threads share nothing is told
 abbrev pub out_of : TracedCenter → ℕ
-out_of c = unwrap_or (out_alone c.bytes) 0
+out_of c = unwrap_or (out_alone c.bytes.dispatch) 0
 
 -- `NODE throttle OUT`
 unfoldable pub throttle_line : Telling → (out : ℕ) → Text

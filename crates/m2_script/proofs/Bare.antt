@@ -19,7 +19,9 @@ use Rattle.m2_script.specs.Laws.{bare}
 use Rattle.m2_script.specs.Made.{records_of}
 use Rattle.m2_script.proofs.Over.{IsOver, all_over, all_owned, all_through, apart_over, distinct_of, each_of, map_through, none_apart, peers_differ}
 use Rattle.m2_shared.specs.Numbers.{SeenNumberPass}
-use Rattle.m2_shared.specs.Throttle.{SeenTakePass}
+use Rattle.m2_shared.specs.declared.throttles.TakePasses.{TakePasses}
+use Rattle.m2_shared.specs.Gates.{pass_places}
+use Rattle.m2_record.proofs.m2_core.Holding.{nothing_owned}
 
 module _ (nodes : List Node) (links : List Link) (lines : List DraftLine) (sound : IsSound nodes links lines) (k word : ℕ) (rs : List RecordNow) (is : map bare rs ≡ map bare (records_of nodes links k word)) where
   -- what the bare ones of new records over links show
@@ -33,7 +35,7 @@ module _ (nodes : List Node) (links : List Link) (lines : List DraftLine) (sound
   all_supplied s made unused =
       subst (λ (m : List SocketId). AllByRecursion (IsSupplied s m) rs) (sym unused)
       (all_so (IsSupplied s []) (IsSupplied s [])
-      (λ l r v. subst (λ (x : RecordNow). IsSupplied s [] (bare x)) (sym v.is) (record { owned = record { feed = tt; parcels = tt }; top = omega arith; made = λ i new. new }))
+      (λ l r v. subst (λ (x : RecordNow). IsSupplied s [] (bare x)) (sym v.is) (record { owned = record { feed = nothing_owned s.places _; parcels = tt }; top = omega arith; made = λ i new. new }))
       (λ r given. record { owned = record { feed = given.owned.feed; parcels = given.owned.parcels }; top = given.top; made = given.made }))
 
   peers_apart : IsDistinct same_addr (map peer_of rs)
@@ -42,9 +44,9 @@ module _ (nodes : List Node) (links : List Link) (lines : List DraftLine) (sound
       subst (IsDistinct same_addr) (sym (map_through bare peer_of (λ r. refl) all) ∙ sym (ap (map peer_of) is) ∙ map_through bare peer_of (λ r. refl) rs)
       (distinct_of peer_of same_addr all (apart_over nodes k word (λ (r s : RecordNow). same_addr (peer_of r) (peer_of s)) (peers_differ nodes k word sound.apart) links sound.joined_once))
 
-  pub bare_can_begin : (x : Node) → slice_get nodes k ≡ Some x → (port : SeenPort) (bytes : SeenTakePass) (numbers : SeenNumberPass) → port.made ≡ [] → CanBegin x.entity port rs bytes numbers × AllOwn bytes.place rs
+  pub bare_can_begin : (x : Node) → slice_get nodes k ≡ Some x → (port : SeenPort) (bytes : TakePasses) (numbers : SeenNumberPass) → port.made ≡ [] → CanBegin x.entity port rs bytes numbers × AllOwn (pass_places bytes) rs
   bare_can_begin x e port bytes numbers unused =
-      let s : Supply = record { place = bytes.place; least = numbers.least } in
+      let s : Supply = record { places = pass_places bytes; least = numbers.least } in
       let supplied : AllByRecursion (IsSupplied s port.made) rs = all_supplied s port.made unused in
       let kind : RecordNow → Type 0 = λ (r : RecordNow). r.core.facts.node.entity ≡ x.entity in (
         record {

@@ -25,7 +25,9 @@ use Rattle.m2_scenario.specs.Valid.{AreApart, IsLink, IsSound, JoinOthers}
 use Rattle.m2_script.specs.declared.made.Towards.{Towards}
 use Rattle.m2_script.specs.Made.{facts_of, new_towards, other_of, over, records_of, roomless}
 use Rattle.m2_shared.specs.Numbers.{SeenNumberPass}
-use Rattle.m2_shared.specs.Throttle.{SeenTakePass}
+use Rattle.m2_shared.specs.declared.throttles.TakePasses.{TakePasses}
+use Rattle.m2_shared.specs.Gates.{pass_places, peer_type}
+use Rattle.m2_record.proofs.m2_core.Holding.{nothing_owned}
 use Rattle.m2_cluster.specs.m2_center.m2_turn.Sessions.{IsSupplied, Supply, peer_of}
 use Rattle.m2_bytes.proofs.m2_lemmas.Booleans.{or_right, or_left, both_true, one_of_or}
 use Rattle.m2_bytes.proofs.m2_lemmas.Numbers.{same_number}
@@ -77,7 +79,7 @@ module _ (nodes : List Node) (k word : ℕ) where
     pub mine_there : slice_get nodes k ≡ Some mine
     pub peer_there : slice_get nodes r.place ≡ Some peer
     pub joined : joins k r.place l ≡ true
-    pub is : r ≡ new_record (record { mine = mine.at; peer = peer.at; policy = policy; node = facts_of mine k word }) r.place
+    pub is : r ≡ new_record (record { mine = mine.at; peer = peer.at; policy = policy; node = facts_of mine k word }) r.place (peer_type peer.entity)
 
   -- the other node of a link is the one that it joins with this one
   towards_other : (l : Link) (t : Towards) → other_of k l ≡ Some t → joins k t.place l ≡ true
@@ -96,7 +98,7 @@ module _ (nodes : List Node) (k word : ℕ) where
   between : (l : Link) (t : Towards) (m p : Option Node) (r : RecordNow) → slice_get nodes k ≡ m → slice_get nodes t.place ≡ p → joins k t.place l ≡ true →
       new_towards m p k word t ≡ Some r → IsOver l r
   between l t (Some m) (Some p) r e f j h =
-      let new : RecordNow = new_record (record { mine = m.at; peer = p.at; policy = t.policy; node = facts_of m k word }) t.place in
+      let new : RecordNow = new_record (record { mine = m.at; peer = p.at; policy = t.policy; node = facts_of m k word }) t.place (peer_type p.entity) in
       subst (IsOver l) (same_Some new r h) (record { mine = m; peer = p; policy = t.policy; mine_there = e; peer_there = f; joined = j; is = refl })
   between l t (Some m) None r e f j h = absurd (none-some r h)
   between l t None (Some p) r e f j h = absurd (none-some r h)
@@ -217,7 +219,7 @@ module _ (nodes : List Node) (links : List Link) (lines : List DraftLine) (sound
       all_through roomless P Q so rs (subst (AllByRecursion Q) (sym is) (all_over nodes k word (IsLink (length nodes)) Q new links (recursion_from_All (IsLink (length nodes)) links sound.joined)))
 
   supplied : (s : Supply) (l : Link) (r : RecordNow) → IsOver nodes k word l r → IsSupplied s [] r
-  supplied s l r v = subst (IsSupplied s []) (sym v.is) (record { owned = record { feed = tt; parcels = tt }; top = omega arith; made = λ i new. new })
+  supplied s l r v = subst (IsSupplied s []) (sym v.is) (record { owned = record { feed = nothing_owned s.places _; parcels = tt }; top = omega arith; made = λ i new. new })
 
   pub peers_apart : IsDistinct same_addr (map peer_of rs)
   peers_apart =
@@ -233,9 +235,9 @@ module _ (nodes : List Node) (links : List Link) (lines : List DraftLine) (sound
   entity_so : (x : Node) → slice_get nodes k ≡ Some x → (l : Link) (r : RecordNow) → IsOver nodes k word l r → r.core.facts.node.entity ≡ x.entity
   entity_so x e l r v = ap (λ (s : RecordNow). s.core.facts.node.entity) v.is ∙ ap (λ (n : Node). n.entity) (same_Some v.mine x (sym v.mine_there ∙ e))
 
-  pub can_begin : (x : Node) → slice_get nodes k ≡ Some x → (cuts : List Cut) (bytes : SeenTakePass) (numbers : SeenNumberPass) → CanBegin x.entity (fresh_cut_port x.at cuts) rs bytes numbers
+  pub can_begin : (x : Node) → slice_get nodes k ≡ Some x → (cuts : List Cut) (bytes : TakePasses) (numbers : SeenNumberPass) → CanBegin x.entity (fresh_cut_port x.at cuts) rs bytes numbers
   can_begin x e cuts bytes numbers =
-      let s : Supply = record { place = bytes.place; least = numbers.least } in
+      let s : Supply = record { places = pass_places bytes; least = numbers.least } in
       record {
         records = all_so (IsSupplied s []) (IsSupplied s []) (λ l r fits. supplied s l r)
             (λ r given. record { owned = record { feed = given.owned.feed; parcels = given.owned.parcels }; top = given.top; made = given.made });
@@ -246,7 +248,7 @@ module _ (nodes : List Node) (links : List Link) (lines : List DraftLine) (sound
         apart = none_apart;
       }
 
--- what they hold was granted by its throttle
-pub all_owned : (s : Supply) (made : List SocketId) (rs : List RecordNow) → AllByRecursion (IsSupplied s made) rs → AllByRecursion (Owns s.place) rs
+-- what they hold was granted by its throttles
+pub all_owned : (s : Supply) (made : List SocketId) (rs : List RecordNow) → AllByRecursion (IsSupplied s made) rs → AllByRecursion (Owns s.places) rs
 all_owned s made [] all = tt
 all_owned s made (r ∷ rs) all = (all.0.owned, all_owned s made rs all.1)

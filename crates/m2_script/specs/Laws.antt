@@ -16,7 +16,8 @@ use Rattle.m2_scenario.specs.Valid.{IsSound, are_short}
 use Rattle.m2_script.specs.Made.{records_of}
 use Rattle.m2_script.specs.Script.{IsWithin, script_of}
 use Rattle.m2_shared.specs.Numbers.{SeenNumberPass}
-use Rattle.m2_shared.specs.Throttle.{SeenTakePass}
+use Rattle.m2_shared.specs.declared.throttles.TakePasses.{TakePasses}
+use Rattle.m2_shared.specs.Gates.{pass_places}
 
 -- Each deed of a valid scenario's lines is of nodes that there are, and each step that is planned is of a link.
 abbrev pub ScriptsAreWithin : Type 0
@@ -37,8 +38,8 @@ bare r = record r {
 }
 
 -- A center can begin with the records of a valid scenario's node over its links, whatever they are to do and however long they wait,
--- over a port that has made no socket; and what they hold, which is nothing, was granted by its throttle.
+-- over a port that has made no socket; and what they hold, which is nothing, was granted by its throttles.
 abbrev pub NewRecordsCanBegin : Type 0
 NewRecordsCanBegin = (nodes : List Node) (links : List Link) (lines : List DraftLine) → IsSound nodes links lines →
     (k word : ℕ) (x : Node) (rs : List RecordNow) → slice_get nodes k ≡ Some x → map bare rs ≡ map bare (records_of nodes links k word) →
-    (port : SeenPort) (bytes : SeenTakePass) (numbers : SeenNumberPass) → port.made ≡ [] → CanBegin x.entity port rs bytes numbers × AllOwn bytes.place rs
+    (port : SeenPort) (bytes : TakePasses) (numbers : SeenNumberPass) → port.made ≡ [] → CanBegin x.entity port rs bytes numbers × AllOwn (pass_places bytes) rs

@@ -1,4 +1,5 @@
 -- What the nodes of a scenario have before its first line. This project's own.
+use Rattle.m2_shared.specs.Gates.{peer_type}
 use Rattle.std.specs.Prelude.{◌≡◌, ℕ, ◌+◌, ◌%◌, ◌==◌, if◌then◌else◌, List, flat_map, map, Option, Some, None, slice_get}
 use Rattle.std.specs.Option.{option_to_list}
 use Rattle.m2_journal.specs.declared.facts.NodeFacts.{NodeFacts}
@@ -36,7 +37,7 @@ other_of number l =
 -- a new record of one node towards another, where there are both
 abbrev pub new_towards : (mine peer : Option Node) → (number word : ℕ) → Towards → Option RecordNow
 new_towards (Some mine) (Some peer) number word t =
-    Some (new_record (record { mine = mine.at; peer = peer.at; policy = t.policy; node = facts_of mine number word }) t.place)
+    Some (new_record (record { mine = mine.at; peer = peer.at; policy = t.policy; node = facts_of mine number word }) t.place (peer_type peer.entity))
 new_towards _ _ number word t = None
 
 -- the record of the node of this number over a link, if it is one of its two

@@ -16,7 +16,8 @@ use Rattle.m2_scenario.specs.declared.link.Link.{Link}
 use Rattle.m2_scenario.specs.declared.node.Node.{Node}
 use Rattle.m2_script.specs.Made.{records_of, roomless}
 use Rattle.m2_shared.specs.Numbers.{SeenNumberPass}
-use Rattle.m2_shared.specs.Throttle.{SeenTakePass, bound_of}
+use Rattle.m2_shared.specs.Gates.{alone, dispatch_alone, unused}
+use Rattle.m2_shared.specs.declared.throttles.TakePasses.{TakePasses}
 use Rattle.m2_fabric.specs.declared.port.Cut.{Cut}
 
 -- where a node listens
@@ -43,22 +44,23 @@ pub record HasNodeRanges (x : Node) : Type 0 where
   pub supports : x.supports < 2 ^ 64
   pub requires_ : x.requires_ < 2 ^ 64
 
--- its pass to a throttle of its own, by which nothing was granted
-abbrev pub none_granted : SeenTakePass
-none_granted = record { place = None; word = 0; changes = [] }
+-- its passes to throttles of its own, by which nothing was granted
+abbrev pub none_granted : TakePasses
+none_granted = unused
 
 -- its pass to a counter of its own, of which no number was drawn
 abbrev pub none_drawn : SeenNumberPass
 none_drawn = record { place = None; least = 0; drawn = [] }
 
 -- The node at place k: its center is new, over a new port in memory at its address, which has the cuts of the lines; its records are
--- over its links, its dispatchers had no call, no number was drawn, and nothing was granted by its throttle, which has its bound.
+-- over its links, its dispatchers had no call, no number was drawn, and nothing was granted by its throttles, of which that of the dispatch has
+-- its bound and no other has one.
 pub record IsNewNode (nodes : List Node) (links : List Link) (lines : List Line) (k : ℕ) (x : Node) (n : NodeNow (List Logged)) : Type 0 where
   pub records : List RecordNow
   pub over : map roomless records ≡ records_of nodes links k (k + 1)
   pub center : n.center ≡ new_center x.entity (fresh_cut_port x.at (cuts_of nodes lines k)) records [] [] none_granted none_drawn
   pub numbers : n.numbers ≡ record { place = None }
-  pub throttle : n.throttle ≡ record { place = None; most = bound_of x.throttle }
+  pub throttles : n.throttles ≡ alone (dispatch_alone x.throttle)
   pub whole : IsWholeNode n
 
 -- one for each of the scenario's

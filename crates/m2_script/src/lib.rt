@@ -1,7 +1,7 @@
 //! A scenario's lines over a cluster in memory, from its nodes before the first line to what is told when the last is
 //! done.
 //!
-//! What it is: [`cluster_of`] makes the nodes of a scenario, each with its center, its [`records`], its throttle, its
+//! What it is: [`cluster_of`] makes the nodes of a scenario, each with its center, its [`records`], its throttles, its
 //! dispatchers that log and its port in memory, whose sockets break where [`cuts_of`] says; [`addresses`] gives where
 //! they listen, for what flows between them, and [`clear_all`] throws nodes away. [`Run`] is such nodes and what flows
 //! between them (`m2_fabric`), which the lines have do deeds, one after another. [`outcome_of`] ends all nodes of a run

@@ -10,6 +10,7 @@ use m2_journal::NodeFacts;
 use m2_policy::{Policy, profile};
 use m2_record::Record;
 use m2_scenario::{Link, MOST_NODES, Node};
+use m2_shared::PeerType;
 use std::alloc::Global;
 
 /// How long a node waits before a new connect after a fault, in milliseconds.
@@ -84,6 +85,7 @@ pub fn record_over<E: End>(
                 t.place,
                 t.policy,
                 facts(mine, number, word),
+                PeerType::of_peer(peer.entity),
             )),
         },
     }

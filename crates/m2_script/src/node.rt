@@ -8,7 +8,7 @@ ghost use Rattle.m2_fabric.specs.Port.{fresh_port};
 ghost use Rattle.m2_script.specs.Nodes.{IsNewNode, cuts_of, none_drawn, none_granted};
 ghost use Rattle.m2_scenario.specs.Draft.{draft_line};
 ghost use Rattle.m2_scenario.specs.Valid.{IsSound};
-ghost use Rattle.m2_shared.specs.Throttle.{bound_of};
+ghost use Rattle.m2_shared.specs.Gates.{alone, dispatch_alone};
 
 use crate::cuts::cuts_of;
 use crate::records;
@@ -18,7 +18,7 @@ use m2_dispatch::LogDispatcher;
 use m2_fabric::{CutEnd, CutPort, SimEnd, SimPort};
 use m2_record::Record;
 use m2_scenario::{Line, Link, Node};
-use m2_shared::{Numbers, Throttle};
+use m2_shared::{Bounds, Numbers, Throttles};
 use std::alloc::Global;
 
 /// A node in memory, whose sockets may break, and whose dispatchers log.
@@ -71,12 +71,12 @@ fn node_with(
     requires begin { CanBegin node.now.entity (shown port) records.items none_granted none_drawn }
     ensures center { IfOk result (λ n. n.center ≡ new_center node.now.entity (shown port) records.items [] [] none_granted none_drawn) }
     ensures numbers { IfOk result (λ n. n.numbers ≡ record { place = None }) }
-    ensures throttle { IfOk result (λ n. n.throttle ≡ record { place = None; most = bound_of node.now.throttle }) }
+    ensures throttles { IfOk result (λ n. n.throttles ≡ alone (dispatch_alone node.now.throttle)) }
     ensures whole { IfOk result IsWholeNode }
 {
     let (numbers, number_pass) = Numbers::alone();
-    let (throttle, take_pass) = Throttle::alone(node.throttle);
-    let shared = NodeShared { numbers, throttle };
+    let (throttles, passes) = Throttles::alone(&Bounds::of_dispatch(node.throttle));
+    let shared = NodeShared { numbers, throttles };
     let of = Unmade {
         entity: node.entity,
         port,
@@ -85,7 +85,7 @@ fn node_with(
         queued: LogDispatcher::new(alloc),
         passes: Passes {
             numbers: number_pass,
-            throttle: take_pass,
+            throttles: passes,
         },
     };
     match Center::new(alloc, of) {

@@ -7,7 +7,8 @@ use Rattle.m2_shared.specs.More.{Course, Goes, passes, is_full, had_changed, una
 use Rattle.m2_shared.specs.Stages.{amount, grant_at}
 use Rattle.m2_shared.specs.Taking.{IsGivenBack, IsOwned, Taking, taking}
 use Rattle.m2_shared.specs.Throttle.{SeenGrant}
-use Rattle.m2_shared.specs.Gates.{Gate, messages, bytes, dispatch, AreHeld, ArePassesOf, AsksPeer, GivesPeer, Keep, Return, entity, gate_of, held, is_gate_of, is_type, pass_in, places, size_granted, throttle_in, type_of, words}
+use Rattle.m2_shared.specs.declared.bounds.Bounds.{Bounds}
+use Rattle.m2_shared.specs.Gates.{Gate, messages, bytes, dispatch, AreHeld, ArePassesOf, AsksPeer, alone, unused, GivesPeer, Keep, Return, entity, gate_of, held, is_gate_of, is_type, pass_in, pass_places, places, size_granted, throttle_in, type_of, words}
 use Rattle.m2_shared.specs.declared.more.More.{More}
 use Rattle.m2_shared.specs.declared.grants.Grants.{Grants}
 use Rattle.m2_shared.specs.declared.peer_grants.PeerGrants.{PeerGrants}
@@ -102,6 +103,31 @@ held_else p g (messages x) e = ap (λ b. if b then size_granted g.messages else 
 held_else p g (bytes x) e = ap (λ b. if b then size_granted g.bytes else 0) e
 held_else p g dispatch e = absurd (true≢false e)
 
+-- ---- where words lie
+
+pub place_at : (t : Throttles) (p : TakePasses) (gate : Gate) → ArePassesOf t p → (pass_in p gate).place ≡ places t gate
+place_at t p gate e = ap (λ at. at gate) e
+
+pub all_places : (t : Throttles) (p : TakePasses) → ((gate : Gate) → (pass_in p gate).place ≡ places t gate) → ArePassesOf t p
+all_places t p at i gate = at gate i
+
+-- where none is shared
+pub alone_passes : (b : Bounds) → ArePassesOf (alone b) unused
+alone_passes b = all_places (alone b) unused at
+  where
+    at : (gate : Gate) → (pass_in unused gate).place ≡ places (alone b) gate
+    at (messages Mon) = refl
+    at (messages Mds) = refl
+    at (messages Osd) = refl
+    at (messages Client) = refl
+    at (messages Mgr) = refl
+    at (bytes Mon) = refl
+    at (bytes Mds) = refl
+    at (bytes Osd) = refl
+    at (bytes Client) = refl
+    at (bytes Mgr) = refl
+    at dispatch = refl
+
 -- ---- asking, at each gate
 
 module _ (answer : More) (size : ℕ) (t : Throttles) (old new : TakePasses) (before after : PeerGrants) (k : AsksPeer answer size t old new before after) where
@@ -109,13 +135,13 @@ module _ (answer : More) (size : ℕ) (t : Throttles) (old new : TakePasses) (be
   at_stage stage = taking (throttle_in t (gate_of before.peer stage)) (pass_in old (gate_of before.peer stage)) (pass_in new (gate_of before.peer stage))
 
   pub asks_passes : ArePassesOf t old → ArePassesOf t new
-  asks_passes of gate = at (gate_is before.peer gate)
+  asks_passes of = all_places t new (λ gate. at gate (gate_is before.peer gate))
     where
-      at : GateIs before.peer gate → (pass_in new gate).place ≡ places t gate
-      at (inl (stage, e)) = subst (λ g. (pass_in new g).place ≡ places t g) (sym e) (
+      at : (gate : Gate) → GateIs before.peer gate → (pass_in new gate).place ≡ places t gate
+      at gate (inl (stage, e)) = subst (λ g. (pass_in new g).place ≡ places t g) (sym e) (
           goes_place (course answer stage) (at_stage stage) (amount stage size) (grant_at before.grants stage) (grant_at after.grants stage) (k.asks stage)
-          ∙ of (gate_of before.peer stage))
-      at (inr e) = ap (λ p. p.place) (k.others gate e) ∙ of gate
+          ∙ place_at t old (gate_of before.peer stage) of)
+      at gate (inr e) = ap (λ p. p.place) (k.others gate e) ∙ place_at t old gate of
 
   pub asks_held : AreHeld (places t) before → AreHeld (places t) after
   asks_held own stage = subst (λ p. IsOwned (places t (gate_of p stage)) (grant_at after.grants stage)) (sym k.peer)
@@ -148,12 +174,12 @@ module _ (t : Throttles) (old new : TakePasses) (g : PeerGrants) (k : GivesPeer 
   back_at stage = taking (throttle_in t (gate_of g.peer stage)) (pass_in old (gate_of g.peer stage)) (pass_in new (gate_of g.peer stage))
 
   pub gives_passes : ArePassesOf t old → ArePassesOf t new
-  gives_passes of gate = at (gate_is g.peer gate)
+  gives_passes of = all_places t new (λ gate. at gate (gate_is g.peer gate))
     where
-      at : GateIs g.peer gate → (pass_in new gate).place ≡ places t gate
-      at (inl (stage, e)) = subst (λ x. (pass_in new x).place ≡ places t x) (sym e)
-          (back_place (back_at stage) (grant_at g.grants stage) (k.gives stage) ∙ of (gate_of g.peer stage))
-      at (inr e) = ap (λ p. p.place) (k.others gate e) ∙ of gate
+      at : (gate : Gate) → GateIs g.peer gate → (pass_in new gate).place ≡ places t gate
+      at gate (inl (stage, e)) = subst (λ x. (pass_in new x).place ≡ places t x) (sym e)
+          (back_place (back_at stage) (grant_at g.grants stage) (k.gives stage) ∙ place_at t old (gate_of g.peer stage) of)
+      at gate (inr e) = ap (λ p. p.place) (k.others gate e) ∙ place_at t old gate of
 
   pub gives_word : Return (held g) t old new
   gives_word gate alone = at (gate_is g.peer gate)

@@ -2,7 +2,7 @@
 -- dispatched yet, of all peers together. The types are those of Ceph's entities.
 use Rattle.std.specs.Prelude.{◌≡◌, ℕ, ◌+◌, ◌-◌, Bool, true, false, ◌&&◌, ◌==◌, if◌then◌else◌, Option, Some, None}
 use Rattle.std.specs.Option.{is_some}
-use Rattle.m2_shared.specs.Place.{IsAlone, Place}
+use Rattle.m2_shared.specs.Place.{IsAlone, IsShared, Place}
 use Rattle.m2_shared.specs.More.{Asks, GivesBack}
 use Rattle.m2_shared.specs.Stages.{grant_at, nothing_granted}
 use Rattle.m2_shared.specs.Taking.{IsOwned}
@@ -35,6 +35,13 @@ entity Mgr = 16
 abbrev pub type_of : ℕ → Option PeerType
 type_of n = if n == 1 then Some Mon else if n == 2 then Some Mds else if n == 4 then Some Osd
     else if n == 8 then Some Client else if n == 16 then Some Mgr else None
+
+abbrev pub or_client : Option PeerType → PeerType
+or_client (Some t) = t
+or_client None = Client
+
+abbrev pub peer_type : ℕ → PeerType
+peer_type n = or_client (type_of n)
 
 abbrev pub is_type : PeerType → PeerType → Bool
 is_type peer t = entity peer == entity t
@@ -95,6 +102,9 @@ Places = Gate → Place
 abbrev pub places : Throttles → Places
 places t gate = (throttle_in t gate).place
 
+abbrev pub pass_places : TakePasses → Places
+pass_places p gate = (pass_in p gate).place
+
 -- each word, where it is alone
 abbrev pub words : TakePasses → Gate → ℕ
 words p gate = (pass_in p gate).word
@@ -121,7 +131,11 @@ nothing_held peer = record { peer = peer; grants = nothing_granted }
 
 -- each pass was made from the throttle at its gate
 abbrev pub ArePassesOf : Throttles → TakePasses → Type 0
-ArePassesOf t p = (gate : Gate) → (pass_in p gate).place ≡ places t gate
+ArePassesOf t p = pass_places p ≡ places t
+
+-- threads share each word
+abbrev pub AreShared : Throttles → Type 0
+AreShared t = (gate : Gate) → IsShared (places t gate)
 
 -- each grant was made from the throttle whose word lies there
 abbrev pub AreHeld : Places → PeerGrants → Type 0
@@ -170,6 +184,19 @@ no_bound = record { messages = 0; bytes = 0 }
 abbrev pub dispatch_alone : ℕ → Bounds
 dispatch_alone most = record { mon = no_bound; mds = no_bound; osd = no_bound; client = no_bound; mgr = no_bound; dispatch = most }
 
+abbrev pub bounds_of : PeerType → Bounds → TypeBound
+bounds_of Mon b = b.mon
+bounds_of Mds b = b.mds
+bounds_of Osd b = b.osd
+bounds_of Client b = b.client
+bounds_of Mgr b = b.mgr
+
+-- the bound at a gate
+abbrev pub bound_at : Bounds → Gate → ℕ
+bound_at b (messages t) = bound_of (bounds_of t b).messages
+bound_at b (bytes t) = bound_of (bounds_of t b).bytes
+bound_at b dispatch = bound_of b.dispatch
+
 abbrev pub alone_throttle : ℕ → SeenThrottle
 alone_throttle most = record { place = None; most = bound_of most }
 
@@ -184,6 +211,22 @@ alone b = record {
 
 abbrev pub unused_type : TypePass
 unused_type = record { messages = unused_pass None; bytes = unused_pass None }
+
+-- a pass of these
+abbrev pub unused_of : TypeThrottle → TypePass
+unused_of t = record { messages = unused_pass t.messages.place; bytes = unused_pass t.bytes.place }
+
+abbrev pub unused_by : Throttles → TakePasses
+unused_by t = record {
+  by_type = record {
+    mon = unused_of t.by_type.mon;
+    mds = unused_of t.by_type.mds;
+    osd = unused_of t.by_type.osd;
+    client = unused_of t.by_type.client;
+    mgr = unused_of t.by_type.mgr;
+  };
+  dispatch = unused_pass t.dispatch.place;
+}
 
 abbrev pub unused : TakePasses
 unused = record {

@@ -1,7 +1,7 @@
 -- A throttle, its passes and its grants as contracts see them, and when a throttle is full. The rule is that of Ceph's
 -- Throttle: a request that fits under the bound waits until it does, and one that is greater than the bound waits until
 -- no more than the bound is out.
-use Rattle.std.specs.Prelude.{ℕ, List, [], Option, Some, None, zero, suc, ◌+◌, ◌<◌, ◌≤◌, ◌⊎◌, if◌then◌else◌}
+use Rattle.std.specs.Prelude.{ℕ, List, [], ◌++◌, Option, Some, None, zero, suc, ◌+◌, ◌<◌, ◌≤◌, ◌⊎◌, if◌then◌else◌}
 use Rattle.std.specs.Option.{is_none}
 use Rattle.m2_shared.specs.declared.limits.TheConstants.{NO_BOUND}
 use Rattle.m2_shared.specs.declared.held.Change.{Change}
@@ -26,6 +26,10 @@ out_alone pass = if is_none pass.place then Some pass.word else None
 -- a pass by which nothing was taken
 abbrev pub unused_pass : Place → SeenTakePass
 unused_pass place = record { place = place; word = 0; changes = [] }
+
+-- what two passes did, by one of them
+abbrev pub joined : SeenTakePass → SeenTakePass → SeenTakePass
+joined pass other = record pass { changes = pass.changes ++ other.changes }
 
 -- where the throttle's word lies, and how many bytes are granted
 pub record SeenGrant : Type 0 where

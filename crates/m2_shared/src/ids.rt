@@ -1,19 +1,18 @@
-//! A throttle's name.
+//! The name of a node's throttles.
 
 ghost use Rattle.std.specs.Prelude.{◌≡◌};
 ghost use Rattle.std.specs.Borrow.{ftrue};
-ghost use Rattle.std.specs.Coded.{coded_option};
-ghost use Rattle.atomic_table.specs.Seated.{table_id_coded};
-ghost use Rattle.m2_shared.specs.Place.{Place};
+ghost use Rattle.m2_shared.specs.declared.throttles.Throttles.{Throttles as AnyThrottles};
+ghost use Rattle.m2_shared.specs.contracts.throttles.Throttles as row;
 
-use crate::throttle::Throttle;
+use crate::throttles::Throttles;
 use std::marker::Model;
 
-/// Names, for contracts alone, the throttle that it was made of: whose grants and passes belong
+/// Names, for contracts alone, the throttles that it was made of: whose grants and passes belong
 /// together. It takes no memory, and its functions do nothing at run time.
 #[derive(Drop)]
 pub struct Ids {
-    pub ghost place: { Place } by { coded_option table_id_coded },
+    pub ghost of: { AnyThrottles } by { row.the_row.coded },
 }
 
 impl Model for Ids {
@@ -21,16 +20,16 @@ impl Model for Ids {
 }
 
 impl Ids {
-    /// The name of a throttle.
-    pub fn of(_throttle: &Throttle) -> Ids
-        ensures { result.place ≡ _throttle.now.place }
+    /// The name of a node's throttles.
+    pub fn of(_throttles: &Throttles) -> Ids
+        ensures { result.of ≡ _throttles.now }
     {
         Ids {}
     }
 
     /// The same name.
     pub fn copy(&self) -> Ids
-        ensures { result.place ≡ self.now.place }
+        ensures { result.of ≡ self.now.of }
     {
         Ids {}
     }

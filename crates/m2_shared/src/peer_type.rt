@@ -1,7 +1,7 @@
 //! The types of peers.
 
 ghost use Rattle.std.specs.Prelude.{◌≡◌};
-ghost use Rattle.m2_shared.specs.Gates.{type_of};
+ghost use Rattle.m2_shared.specs.Gates.{peer_type, type_of};
 
 /// The types of Ceph's entities, for each of which a node may have throttles.
 #[derive(Clone, Copy, Debug, Drop, PartialEq, Eq)]
@@ -25,6 +25,16 @@ impl PeerType {
             8 => Some(PeerType::Client),
             16 => Some(PeerType::Mgr),
             _ => None,
+        }
+    }
+
+    /// The same, where a number that means none stands for a client.
+    pub fn of_peer(entity: u8) -> PeerType
+        ensures { result ≡ peer_type entity }
+    {
+        match PeerType::of(entity) {
+            Some(of) => of,
+            None => PeerType::Client,
         }
     }
 }

@@ -103,9 +103,9 @@ counted None = tt
 
 next_facts : (t : Throttled) (answer : CoreNext) (front : FrontHeard) (before after : CoreNow) → IsNext t answer front before after → after.facts ≡ before.facts
 next_facts t next.Rests rests before after e = ap (λ c. c.facts) e
-next_facts t next.Granted (asks n) before after (_, g) = ap (λ c. c.facts) g.only
-next_facts t (next.Full held) (asks n) before after (_, e) = ap (λ c. c.facts) e
-next_facts t (next.Again seen now) (asks n) before after (_, e) = ap (λ c. c.facts) e
+next_facts t next.Granted (asks n) before after g = ap (λ c. c.facts) g.only
+next_facts t (next.Full stage held) (asks n) before after g = ap (λ c. c.facts) g.only
+next_facts t (next.Again stage seen now) (asks n) before after g = ap (λ c. c.facts) g.only
 next_facts t next.Passed (tells heard.Nothing) before after h = ap (λ c. c.facts) h.only
 next_facts t next.Passed (tells (heard.Stamp k)) before after h = ap (λ c. c.facts) h.only
 next_facts t next.NoMemory (tells (heard.Stamp k)) before after e = ap (λ c. c.facts) e
@@ -168,8 +168,8 @@ hands : (answer : Stepped) (old new : RecordNow) → HandsAs answer old new → 
 hands (stepped.Hand x) old new (_, e) = same old new (ap (λ r. r.journal) e) (ap (λ r. r.core.facts) e)
 hands stepped.Moved old new e = elim e [ ]
 hands stepped.Dry old new e = elim e [ ]
-hands (stepped.Full held) old new e = elim e [ ]
-hands (stepped.Again seen now) old new e = elim e [ ]
+hands (stepped.Full stage held) old new e = elim e [ ]
+hands (stepped.Again stage seen now) old new e = elim e [ ]
 hands stepped.Spent old new e = elim e [ ]
 hands (stepped.Faulted f) old new e = elim e [ ]
 hands stepped.NoMemory old new e = elim e [ ]
@@ -196,8 +196,8 @@ frames t (framed.Accepted number) now old new (a, _, h, e) = by_these old new _ 
 frames t (framed.Obeyed full) now old new (mid, (_, first), (h, second)) =
     chain old mid new (room_alone old mid first) (by_these mid new _ (ap (λ r. r.journal) second) (ap (λ c. c.facts) h.only) (tt, tt))
 frames t (framed.Faulted cause) now old new (_, e) = breaks now old new e
-frames t (framed.Full out) now old new (_, e) = room_alone old new e
-frames t (framed.Again seen at) now old new (_, e) = room_alone old new e
+frames t (framed.Full stage out) now old new (h, e) = core_alone old new e (front_facts t (next.Full stage out) old.core new.core h)
+frames t (framed.Again stage seen at) now old new (h, e) = core_alone old new e (front_facts t (next.Again stage seen at) old.core new.core h)
 frames t framed.NoMemory now old new (_, e) = room_alone old new e
 
 pub counts_on : (old new : RecordNow) → CountsResumption old new → GoesOn old new
@@ -284,7 +284,7 @@ steps stepped.NoMemory w old new n = same old new (ap (λ r. r.journal) n.nothin
 steps stepped.Moved w old new (mid, room, due) = takes_due w old mid new room due
 steps (stepped.Hand x) w old new (mid, room, due) = takes_due w old mid new room due
 steps stepped.Dry w old new (mid, room, due) = takes_due w old mid new room due
-steps (stepped.Full held) w old new (mid, room, due) = takes_due w old mid new room due
-steps (stepped.Again seen now) w old new (mid, room, due) = takes_due w old mid new room due
+steps (stepped.Full stage held) w old new (mid, room, due) = takes_due w old mid new room due
+steps (stepped.Again stage seen now) w old new (mid, room, due) = takes_due w old mid new room due
 steps stepped.Spent w old new (mid, room, due) = takes_due w old mid new room due
 steps (stepped.Faulted f) w old new (mid, room, due) = takes_due w old mid new room due

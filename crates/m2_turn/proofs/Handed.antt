@@ -68,8 +68,8 @@ framed_none (framed.Acked number) = tt
 framed_none (framed.Accepted number) = tt
 framed_none (framed.Obeyed full) = tt
 framed_none (framed.Faulted cause) = tt
-framed_none (framed.Full held) = tt
-framed_none (framed.Again seen now) = tt
+framed_none (framed.Full stage held) = tt
+framed_none (framed.Again stage seen now) = tt
 framed_none framed.NoMemory = tt
 
 heard_none : (h : Option Heard) → IsHandless (answer_heard h)
@@ -133,8 +133,8 @@ frames t (framed.Acked number) now old new (h, e) = ap (λ r. r.handed) e
 frames t (framed.Accepted number) now old new (a, _, h, e) = ap (λ r. r.handed) e
 frames t (framed.Obeyed full) now old new (mid, (_, first), (h, second)) = ap (λ r. r.handed) second ∙ ap (λ r. r.handed) first
 frames t (framed.Faulted cause) now old new (_, e) = ap (λ r. r.handed) e
-frames t (framed.Full out) now old new (_, e) = ap (λ r. r.handed) e
-frames t (framed.Again seen at) now old new (_, e) = ap (λ r. r.handed) e
+frames t (framed.Full stage out) now old new (_, e) = ap (λ r. r.handed) e
+frames t (framed.Again stage seen at) now old new (_, e) = ap (λ r. r.handed) e
 frames t framed.NoMemory now old new (_, e) = ap (λ r. r.handed) e
 
 counts_answer : (h : Option Heard) (old new : RecordNow) → CountsAnswer h old new → HandsNone old new
@@ -181,8 +181,8 @@ none_by : (answer : Stepped) (old new : RecordNow) → IsHandless answer → Han
 none_by (stepped.Hand x) old new none e = absurd none
 none_by stepped.Moved old new none e = e
 none_by stepped.Dry old new none e = e
-none_by (stepped.Full held) old new none e = e
-none_by (stepped.Again seen now) old new none e = e
+none_by (stepped.Full stage held) old new none e = e
+none_by (stepped.Again stage seen now) old new none e = e
 none_by stepped.Spent old new none e = e
 none_by (stepped.Faulted f) old new none e = e
 none_by stepped.NoMemory old new none e = e
@@ -191,8 +191,8 @@ hands : (answer : Stepped) (old new : RecordNow) → HandsAs answer old new → 
 hands (stepped.Hand x) old new h = h
 hands stepped.Moved old new e = elim e [ ]
 hands stepped.Dry old new e = elim e [ ]
-hands (stepped.Full held) old new e = elim e [ ]
-hands (stepped.Again seen now) old new e = elim e [ ]
+hands (stepped.Full stage held) old new e = elim e [ ]
+hands (stepped.Again stage seen now) old new e = elim e [ ]
 hands stepped.Spent old new e = elim e [ ]
 hands (stepped.Faulted f) old new e = elim e [ ]
 hands stepped.NoMemory old new e = elim e [ ]
@@ -233,7 +233,7 @@ steps (stepped.Hand x) w old new e (mid, room, due) =
     }
 steps stepped.Moved w old new e (mid, room, due) = takes_due stepped.Moved w old mid new e room due ∙ ap (λ r. r.handed) room
 steps stepped.Dry w old new e (mid, room, due) = takes_due stepped.Dry w old mid new e room due ∙ ap (λ r. r.handed) room
-steps (stepped.Full held) w old new e (mid, room, due) = takes_due (stepped.Full held) w old mid new e room due ∙ ap (λ r. r.handed) room
-steps (stepped.Again seen now) w old new e (mid, room, due) = takes_due (stepped.Again seen now) w old mid new e room due ∙ ap (λ r. r.handed) room
+steps (stepped.Full stage held) w old new e (mid, room, due) = takes_due (stepped.Full stage held) w old mid new e room due ∙ ap (λ r. r.handed) room
+steps (stepped.Again stage seen now) w old new e (mid, room, due) = takes_due (stepped.Again stage seen now) w old mid new e room due ∙ ap (λ r. r.handed) room
 steps stepped.Spent w old new e (mid, room, due) = takes_due stepped.Spent w old mid new e room due ∙ ap (λ r. r.handed) room
 steps (stepped.Faulted f) w old new e (mid, room, due) = takes_due (stepped.Faulted f) w old mid new e room due ∙ ap (λ r. r.handed) room

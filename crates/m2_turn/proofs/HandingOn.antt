@@ -13,8 +13,9 @@ use Rattle.m2_dispatch.specs.Dispatch.{Queued}
 use Rattle.m2_dispatch.specs.Letters.{AreOwned, heard_in}
 use Rattle.m2_dispatch.specs.Parcel.{AllOwned, IsOwned, heard_at_put, heard_for, heard_for_all, letters_on}
 use Rattle.m2_dispatch.specs.Turn.{IsTurn, dispatched}
-use Rattle.m2_shared.specs.Place.{IsAlone, IsShared, Place}
-use Rattle.m2_shared.specs.Throttle.{SeenTakePass}
+use Rattle.m2_shared.specs.Place.{IsShared}
+use Rattle.m2_shared.specs.Gates.{Gate, Places}
+use Rattle.m2_shared.specs.declared.throttles.TakePasses.{TakePasses}
 use Rattle.m2_turn.specs.HandingOn.{HandsAllOn, HandsLetters, HandsNoLetter, HandsOn, IsNoDiscard, letters_among, resets_on}
 use Rattle.m2_turn.specs.Mailing.{DispatchesSome, PutsSome, mailing, queueing}
 use Rattle.m2_turn.specs.Outbox.{OutboxNow}
@@ -23,18 +24,18 @@ use Rattle.m2_turn.proofs.Emptied.{split_at_one}
 pub heard_for_both : (xs ys : List Parcel) → heard_for_all (xs ++ ys) ≡ heard_for_all xs ++ heard_for_all ys
 heard_for_both xs ys = flat_map-append heard_for xs ys
 
-pub nothing_on : {D : Type 0} (heard : D → List Heard) (place : Place) (d : D) (into : List Parcel) → HandsOn heard place d d into into
-nothing_on heard place d into = record { more = []; last = sym (append-nil into); heard_more = sym (append-nil (heard d)); no_discard = tt; owned = tt }
+pub nothing_on : {D : Type 0} (heard : D → List Heard) (places : Places) (d : D) (into : List Parcel) → HandsOn heard places d d into into
+nothing_on heard places d into = record { more = []; last = sym (append-nil into); heard_more = sym (append-nil (heard d)); no_discard = tt; owned = tt }
 
-pub on_both : {D : Type 0} (heard : D → List Heard) (place : Place) (old mid new : D) (into between behind : List Parcel) →
-    HandsOn heard place old mid into between → HandsOn heard place mid new between behind → HandsOn heard place old new into behind
-on_both heard place old mid new into between behind a b = record {
+pub on_both : {D : Type 0} (heard : D → List Heard) (places : Places) (old mid new : D) (into between behind : List Parcel) →
+    HandsOn heard places old mid into between → HandsOn heard places mid new between behind → HandsOn heard places old new into behind
+on_both heard places old mid new into between behind a b = record {
   more = a.more ++ b.more;
   last = b.last ∙ ap (λ l. l ++ b.more) a.last ∙ append_assoc into a.more b.more;
   heard_more = b.heard_more ∙ ap (λ l. l ++ heard_for_all b.more) a.heard_more ∙ append_assoc (heard old) (heard_for_all a.more) (heard_for_all b.more)
       ∙ ap (λ l. heard old ++ l) (sym (heard_for_both a.more b.more));
   no_discard = all_append IsNoDiscard a.more b.more a.no_discard b.no_discard;
-  owned = all_append (IsOwned place) a.more b.more a.owned b.owned;
+  owned = all_append (IsOwned places) a.more b.more a.owned b.owned;
 }
 
 -- ---- parcels that are put
@@ -44,10 +45,10 @@ resets_heard (parcel.Letter l) = refl
 resets_heard (parcel.Discard peer) = refl
 resets_heard (parcel.RemoteReset peer) = refl
 
-resets_owned : (place : Place) (x : Parcel) → AllOwned place (resets_on x)
-resets_owned place (parcel.Letter l) = tt
-resets_owned place (parcel.Discard peer) = tt
-resets_owned place (parcel.RemoteReset peer) = (tt, tt)
+resets_owned : (places : Places) (x : Parcel) → AllOwned places (resets_on x)
+resets_owned places (parcel.Letter l) = tt
+resets_owned places (parcel.Discard peer) = tt
+resets_owned places (parcel.RemoteReset peer) = (tt, tt)
 
 resets_are_none : (x : Parcel) → AllByRecursion IsNoDiscard (resets_on x)
 resets_are_none (parcel.Letter l) = tt
@@ -55,14 +56,14 @@ resets_are_none (parcel.Discard peer) = tt
 resets_are_none (parcel.RemoteReset peer) = (tt, tt)
 
 -- one is put
-pub one_on : {D : Type 0} (heard : D → List Heard) (place : Place) (x : Parcel) (old new : D) (into behind : List Parcel) → heard new ≡ heard old ++ heard_at_put x →
-    behind ≡ into ++ resets_on x → HandsOn heard place old new into behind
-one_on heard place x old new into behind told last = record {
+pub one_on : {D : Type 0} (heard : D → List Heard) (places : Places) (x : Parcel) (old new : D) (into behind : List Parcel) → heard new ≡ heard old ++ heard_at_put x →
+    behind ≡ into ++ resets_on x → HandsOn heard places old new into behind
+one_on heard places x old new into behind told last = record {
   more = resets_on x;
   last = last;
   heard_more = told ∙ ap (λ l. heard old ++ l) (resets_heard x);
   no_discard = resets_are_none x;
-  owned = resets_owned place x;
+  owned = resets_owned places x;
 }
 
 -- ---- the letters among what is handed on
@@ -82,27 +83,27 @@ among_letters : (ls : List Letter) → letters_among (letters_on ls) ≡ ls
 among_letters [] = refl
 among_letters (l ∷ ls) = ap (λ rest. l ∷ rest) (among_letters ls)
 
-pub none_so_far : {D : Type 0} (heard : D → List Heard) (place : Place) (d : D) (into : List Parcel) → HandsNoLetter heard place d d into into
+pub none_so_far : {D : Type 0} (heard : D → List Heard) (places : Places) (d : D) (into : List Parcel) → HandsNoLetter heard places d d into into
 unfolding nothing_on
-none_so_far heard place d into = record { on = nothing_on heard place d into; none = refl }
+none_so_far heard places d into = record { on = nothing_on heard places d into; none = refl }
 
-pub reset_on : {D : Type 0} (heard : D → List Heard) (place : Place) (x : Parcel) (old new : D) (into behind : List Parcel) → heard new ≡ heard old ++ heard_at_put x →
-    behind ≡ into ++ resets_on x → HandsNoLetter heard place old new into behind
+pub reset_on : {D : Type 0} (heard : D → List Heard) (places : Places) (x : Parcel) (old new : D) (into behind : List Parcel) → heard new ≡ heard old ++ heard_at_put x →
+    behind ≡ into ++ resets_on x → HandsNoLetter heard places old new into behind
 unfolding one_on
-reset_on heard place x old new into behind told last = record { on = one_on heard place x old new into behind told last; none = among_resets x }
+reset_on heard places x old new into behind told last = record { on = one_on heard places x old new into behind told last; none = among_resets x }
 
-pub no_letters : {D : Type 0} (heard : D → List Heard) (place : Place) (old mid new : D) (into between behind : List Parcel) →
-    HandsNoLetter heard place old mid into between → HandsNoLetter heard place mid new between behind → HandsNoLetter heard place old new into behind
+pub no_letters : {D : Type 0} (heard : D → List Heard) (places : Places) (old mid new : D) (into between behind : List Parcel) →
+    HandsNoLetter heard places old mid into between → HandsNoLetter heard places mid new between behind → HandsNoLetter heard places old new into behind
 unfolding on_both
-no_letters heard place old mid new into between behind a b = record {
-  on = on_both heard place old mid new into between behind a.on b.on;
+no_letters heard places old mid new into between behind a b = record {
+  on = on_both heard places old mid new into between behind a.on b.on;
   none = among_both a.on.more b.on.more ∙ ap (λ ls. ls ++ letters_among b.on.more) a.none ∙ b.none;
 }
 
 -- one couldn't be put
-pub no_letter_left : {D : Type 0} (heard : D → List Heard) (place : Place) (old mid new : D) (into between behind : List Parcel) → HandsNoLetter heard place old mid into between →
-    heard new ≡ heard mid → behind ≡ between → HandsNoLetter heard place old new into behind
-no_letter_left heard place old mid new into between behind a told same = record {
+pub no_letter_left : {D : Type 0} (heard : D → List Heard) (places : Places) (old mid new : D) (into between behind : List Parcel) → HandsNoLetter heard places old mid into between →
+    heard new ≡ heard mid → behind ≡ between → HandsNoLetter heard places old new into behind
+no_letter_left heard places old mid new into between behind a told same = record {
   on = record { more = a.on.more; last = same ∙ a.on.last; heard_more = told ∙ a.on.heard_more; no_discard = a.on.no_discard; owned = a.on.owned };
   none = a.none;
 }
@@ -110,11 +111,11 @@ no_letter_left heard place old mid new into between behind a told same = record 
 -- ---- letters that are handed on
 
 abbrev pub no_letter_on : {D : Type 0} (heard : D → List Heard) (q : Queued D) (into : List Parcel) → HandsAllOn heard q q into into
-no_letter_on heard q into = record { dispatched = []; waiting = refl; heard_more = sym (append-nil (heard q.inner)); last = sym (append-nil into); owned = λ place owned. (owned, tt) }
+no_letter_on heard q into = record { dispatched = []; waiting = refl; heard_more = sym (append-nil (heard q.inner)); last = sym (append-nil into); owned = λ places owned. (owned, tt) }
 
 abbrev pub one_letter_on : {D : Type 0} (heard : D → List Heard) (old mid new : Queued D) (into between behind : List Parcel) → HandsAllOn heard old mid into between → IsTurn turn.One mid.waiting new.waiting →
     heard new.inner ≡ heard mid.inner ++ map heard_in (dispatched turn.One mid.waiting) → behind ≡ between ++ letters_on (dispatched turn.One mid.waiting) →
-    ((place : Place) → AreOwned place mid.waiting → AreOwned place new.waiting × AllOwned place (letters_on (dispatched turn.One mid.waiting))) → HandsAllOn heard old new into behind
+    ((places : Places) → AreOwned places mid.waiting → AreOwned places new.waiting × AllOwned places (letters_on (dispatched turn.One mid.waiting))) → HandsAllOn heard old new into behind
 one_letter_on heard old mid new into between behind d turned told last owned =
     let one = dispatched turn.One mid.waiting in
     record {
@@ -123,11 +124,22 @@ one_letter_on heard old mid new into between behind d turned told last owned =
       heard_more = told ∙ ap (λ l. l ++ map heard_in one) d.heard_more ∙ append_assoc (heard old.inner) (map heard_in d.dispatched) (map heard_in one)
           ∙ ap (λ l. heard old.inner ++ l) (sym (map-append heard_in d.dispatched one));
       last = last ∙ ap (λ l. l ++ letters_on one) d.last ∙ append_assoc into (letters_on d.dispatched) (letters_on one) ∙ ap (λ l. into ++ l) (sym (map-append parcel.Letter d.dispatched one));
-      owned = λ place all.
-          let first = d.owned place all in
-          let second = owned place first.0 in
-          (second.0, subst (AllOwned place) (sym (map-append parcel.Letter d.dispatched one)) (all_append (IsOwned place) (letters_on d.dispatched) (letters_on one) first.1 second.1));
+      owned = λ places all.
+          let first = d.owned places all in
+          let second = owned places first.0 in
+          (second.0, subst (AllOwned places) (sym (map-append parcel.Letter d.dispatched one)) (all_append (IsOwned places) (letters_on d.dispatched) (letters_on one) first.1 second.1));
     }
+
+-- none was, for want of memory
+pub no_letter_more : {D : Type 0} (heard : D → List Heard) (old mid new : Queued D) (into between behind : List Parcel) → HandsAllOn heard old mid into between → IsTurn turn.NoMemory mid.waiting new.waiting →
+    heard new.inner ≡ heard mid.inner ++ [] → behind ≡ between ++ [] → HandsAllOn heard old new into behind
+no_letter_more heard old mid new into between behind d (some, same) told last = record {
+  dispatched = d.dispatched;
+  waiting = d.waiting ∙ ap (λ l. d.dispatched ++ l) (sym same);
+  heard_more = told ∙ append-nil (heard mid.inner) ∙ d.heard_more;
+  last = last ∙ append-nil between ∙ d.last;
+  owned = λ places all. let first = d.owned places all in (subst (AreOwned places) (sym same) first.0, first.1);
+}
 
 letters_heard : (ls : List Letter) → heard_for_all (letters_on ls) ≡ map heard_in ls
 letters_heard [] = refl
@@ -137,32 +149,32 @@ letters_are_none : (ls : List Letter) → AllByRecursion IsNoDiscard (letters_on
 letters_are_none [] = tt
 letters_are_none (l ∷ ls) = (tt, letters_are_none ls)
 
--- all of them are dispatched, as contracts see it of a word that threads share
-pub are_dispatched : {D : Type 0} (heard : D → List Heard) (place : Place) (old new : Queued D) (pass : SeenTakePass) (into behind : List Parcel) → IsShared place → HandsAllOn heard old new into behind →
-    DispatchesSome heard place (queueing old pass) (queueing new pass)
-are_dispatched heard place old new pass into behind shared on =
-    record { dispatched = on.dispatched; waiting = on.waiting; heard_more = on.heard_more; word = (λ alone. absurd (shared alone)) }
+-- all of them are dispatched, as contracts see it of words that threads share
+pub are_dispatched : {D : Type 0} (heard : D → List Heard) (places : Places) (old new : Queued D) (pass : TakePasses) (into behind : List Parcel) → ((gate : Gate) → IsShared (places gate)) → HandsAllOn heard old new into behind →
+    DispatchesSome heard places (queueing old pass) (queueing new pass)
+are_dispatched heard places old new pass into behind shared on =
+    record { dispatched = on.dispatched; waiting = on.waiting; heard_more = on.heard_more; word = (λ gate alone. absurd (shared gate alone)) }
 
-pub letters_are_on : {D : Type 0} (heard : D → List Heard) (place : Place) (old new : Queued D) (into behind : List Parcel) → AreOwned place old.waiting → HandsAllOn heard old new into behind →
-    HandsOn heard place old.inner new.inner into behind
-letters_are_on heard place old new into behind owned on = record {
+pub letters_are_on : {D : Type 0} (heard : D → List Heard) (places : Places) (old new : Queued D) (into behind : List Parcel) → AreOwned places old.waiting → HandsAllOn heard old new into behind →
+    HandsOn heard places old.inner new.inner into behind
+letters_are_on heard places old new into behind owned on = record {
   more = letters_on on.dispatched;
   last = on.last;
   heard_more = on.heard_more ∙ ap (λ l. heard old.inner ++ l) (sym (letters_heard on.dispatched));
   no_discard = letters_are_none on.dispatched;
-  owned = (on.owned place owned).1;
+  owned = (on.owned places owned).1;
 }
 
 -- ---- what waited first
 
-module _ {D : Type 0} (heard : D → List Heard) (place : Place) (out between : OutboxNow D) (old mid : Queued D) (pass amid : SeenTakePass) (into put : List Parcel)
-    (puts : PutsSome heard place (mailing out old pass) (mailing between mid amid)) (on : HandsNoLetter heard place old.inner mid.inner into put) where
+module _ {D : Type 0} (heard : D → List Heard) (places : Places) (out between : OutboxNow D) (old mid : Queued D) (passes amid : TakePasses) (into put : List Parcel)
+    (puts : PutsSome heard places (mailing out old passes) (mailing between mid amid)) (on : HandsNoLetter heard places old.inner mid.inner into put) where
   -- memory ran out for a parcel
-  pub first_of_none : HandsLetters (mailing out old pass) (mailing between mid amid) into put
+  pub first_of_none : HandsLetters (mailing out old passes) (mailing between mid amid) into put
   first_of_none = record { put = puts.put; mail = puts.mail; more = on.on.more; last = on.on.last; waiting = sym puts.waiting ∙ ap (λ ls. ls ++ mid.waiting) (sym on.none) }
 
   -- letters are handed on behind what is put
-  pub first_of_all : (new : Queued D) (last : SeenTakePass) (behind : List Parcel) → HandsAllOn heard mid new put behind → HandsLetters (mailing out old pass) (mailing between new last) into behind
+  pub first_of_all : (new : Queued D) (last : TakePasses) (behind : List Parcel) → HandsAllOn heard mid new put behind → HandsLetters (mailing out old passes) (mailing between new last) into behind
   first_of_all new last behind all = record {
     put = puts.put;
     mail = puts.mail;

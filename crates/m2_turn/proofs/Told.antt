@@ -1,4 +1,5 @@
 -- What records have told halves stays so, and so the sessions stay consistent.
+use Rattle.m2_shared.specs.Gates.{places}
 use Rattle.std.proofs.Common.{◌≡◌, ℕ, Bool, true, false, ◌||◌, if◌then◌else◌, List, [], ◌∷◌, ◌++◌, map, Option, refl, sym, ap, subst, ◌∙◌, append-nil, append_assoc}
 use Rattle.std.specs.List.{AllByRecursion, IsDistinct, list_any}
 use Rattle.m2_addr.specs.declared.addr.Addr.{Addr}
@@ -117,7 +118,7 @@ opened_told made e old new was is fresh opens =
 pub supplied_on : (a b : Work) (made more : List SocketId) (r : RecordNow) → IsSameWork a b → KeepsReached a.number_pass.now b.number_pass.now → MadeOn made more → TopFits r →
     IsSupplied (supply_of a) made r → IsSupplied (supply_of b) more r
 supplied_on a b made more r same reached on fits s = record {
-  owned = subst (λ p. Owns p r) (sym (ap (λ t. t.place) same.throttle)) s.owned;
+  owned = subst (λ t. Owns (places t) r) (sym same.throttles) s.owned;
   top = reached r.core.top fits s.top;
   made = (λ k fresh. s.made k (new_before k made more on fresh));
 }

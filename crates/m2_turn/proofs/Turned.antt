@@ -151,8 +151,8 @@ known_home made rs place peer side a home all =
 -- what the record that answers leaves, and what the passes reach then
 pub record IsAnswered {E : Type 0} (answer : HalfAnswered E) (a : IncomingNow) (old new : Supply) (side behind : RecordNow) : Type 0 where
   pub stays : StaysAnswered answer a side behind
-  pub place : new.place ≡ old.place
-  pub owned : Owns new.place behind
+  pub places : new.places ≡ old.places
+  pub owned : Owns new.places behind
   pub top : behind.core.top ≤ new.least
   pub reached : (n : ℕ) → n ≤ LAST_NUMBER → n ≤ old.least → n ≤ new.least
 
@@ -255,7 +255,7 @@ rest_answered : {E : Type 0} (answer : HalfAnswered E) (old new : Supply) (e : �
 rest_answered answer old new e place peer a side behind c rs fits home is all = record {
   records = replaced (IsSupplied new c.made) rs place behind
       (each_of_two (IsSupplied old c.made) (λ (r : RecordNow). r.core.top ≤ LAST_NUMBER) (IsSupplied new c.made)
-      (λ r had fit. record { owned = subst (λ p. Owns p r) (sym is.place) had.owned; top = is.reached r.core.top fit had.top; made = had.made }) rs all.rest.records fits)
+      (λ r had fit. record { owned = subst (λ p. Owns p r) (sym is.places) had.owned; top = is.reached r.core.top fit had.top; made = had.made }) rs all.rest.records fits)
       (record { owned = is.owned; top = is.top; made = is.stays.made c.made all.caller.made (at_place (IsSupplied old c.made) side rs place home.within home.here all.rest.records).made });
   kind = replaced (λ (r : RecordNow). r.core.facts.node.entity ≡ e) rs place behind all.rest.kind
       (ap (λ f. f.node.entity) is.stays.facts ∙ at_place (λ r. r.core.facts.node.entity ≡ e) side rs place home.within home.here all.rest.kind);
@@ -340,7 +340,7 @@ asked_apart s a asker peer c rs known all =
 -- what the record that is to answer knows, and what it is supplied with
 pub record MayAnswer (s : Supply) (a : IncomingNow) (side : RecordNow) : Type 0 where
   pub known : IsKnown a side
-  pub owned : Owns s.place side
+  pub owned : Owns s.places side
   pub top : side.core.top ≤ s.least
 
 pub may_answer : (s : Supply) (a : IncomingNow) (asker : Option Addr) (peer : Addr) (c : Others) (rs : List RecordNow) (place : ℕ) (side : RecordNow) → is_known asker peer ≡ true → IsHome rs place peer side →

@@ -11,7 +11,7 @@ use Rattle.m2_handshake.specs.Asks.{is_known, same_addr}
 use Rattle.m2_record.specs.declared.work.Work.{Work}
 use Rattle.m2_record.specs.RecordNow.{RecordNow}
 use Rattle.m2_shared.specs.Numbers.{SeenNumberPass}
-use Rattle.m2_shared.specs.Throttle.{SeenTakePass}
+use Rattle.m2_shared.specs.declared.throttles.TakePasses.{TakePasses}
 use Rattle.m2_trail.specs.Arrivals.{IsArrival, LooseNow, closed_of}
 use Rattle.m2_trail.specs.Asks.{IsMain}
 use Rattle.m2_trail.specs.Incoming.{IncomingNow}
@@ -30,11 +30,11 @@ use Rattle.m2_turn.specs.Sessions.{PendingNow, Sessions, peer_of}
 -- what answering asks can change: the records of a center, and the passes of its thread
 pub record Homes : Type 0 where
   pub records : List RecordNow
-  pub bytes : SeenTakePass
+  pub bytes : TakePasses
   pub numbers : SeenNumberPass
 
 abbrev pub homes : List RecordNow → Work → Homes
-homes records w = record { records = records; bytes = w.take_pass.now; numbers = w.number_pass.now }
+homes records w = record { records = records; bytes = w.passes.now; numbers = w.number_pass.now }
 
 -- one of the records with the passes
 abbrev pub judging_in : RecordNow → Homes → Judging

@@ -9,7 +9,7 @@ use Rattle.m2_dispatch.specs.declared.parcel.Parcel.TheVariants as parcel
 use Rattle.m2_dispatch.specs.Dispatch.{Queued}
 use Rattle.m2_dispatch.specs.Letters.{AreOwned, heard_in}
 use Rattle.m2_dispatch.specs.Parcel.{AllOwned, heard_for_all, letters_on}
-use Rattle.m2_shared.specs.Place.{Place}
+use Rattle.m2_shared.specs.Gates.{Places}
 use Rattle.m2_turn.specs.Mailing.{Mailing, after_puts}
 
 -- a letter or a reset: a discard would throw letters away that count as heard
@@ -19,13 +19,13 @@ IsNoDiscard (parcel.Discard peer) = ⊥
 IsNoDiscard (parcel.RemoteReset peer) = Unit {0}
 
 -- The dispatcher was called with what these parcels, which are last now, are dispatched as, in order, and with nothing else; none
--- of them is a discard, and what they hold was granted by the throttle whose word lies there.
-pub record HandsOn {D : Type 0} (heard : D → List Heard) (place : Place) (old new : D) (into behind : List Parcel) : Type 0 where
+-- of them is a discard, and what they hold was granted by the throttles whose words lie there.
+pub record HandsOn {D : Type 0} (heard : D → List Heard) (places : Places) (old new : D) (into behind : List Parcel) : Type 0 where
   pub more : List Parcel
   pub last : behind ≡ into ++ more
   pub heard_more : heard new ≡ heard old ++ heard_for_all more
   pub no_discard : AllByRecursion IsNoDiscard more
-  pub owned : AllOwned place more
+  pub owned : AllOwned places more
 
 -- the letters among parcels, in order
 abbrev pub letters_among : List Parcel → List Letter
@@ -44,8 +44,8 @@ pub record HandsLetters {D : Type 0} (old new : Mailing D) (into behind : List P
   pub waiting : after_puts put old.queue.queued.waiting ≡ letters_among more ++ new.queue.queued.waiting
 
 -- no letter is handed on
-pub record HandsNoLetter {D : Type 0} (heard : D → List Heard) (place : Place) (old new : D) (into behind : List Parcel) : Type 0 where
-  pub on : HandsOn heard place old new into behind
+pub record HandsNoLetter {D : Type 0} (heard : D → List Heard) (places : Places) (old new : D) (into behind : List Parcel) : Type 0 where
+  pub on : HandsOn heard places old new into behind
   pub none : letters_among on.more ≡ []
 
 -- a parcel that is handed on where it is put
@@ -60,4 +60,4 @@ pub record HandsAllOn {D : Type 0} (heard : D → List Heard) (old new : Queued 
   pub waiting : old.waiting ≡ dispatched ++ new.waiting
   pub heard_more : heard new.inner ≡ heard old.inner ++ map heard_in dispatched
   pub last : behind ≡ into ++ letters_on dispatched
-  pub owned : (place : Place) → AreOwned place old.waiting → AreOwned place new.waiting × AllOwned place (letters_on dispatched)
+  pub owned : (places : Places) → AreOwned places old.waiting → AreOwned places new.waiting × AllOwned places (letters_on dispatched)

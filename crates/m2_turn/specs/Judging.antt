@@ -8,8 +8,8 @@ use Rattle.m2_session.specs.declared.answer.Answer.{Answer}
 use Rattle.m2_shared.specs.declared.draw.Draw.{Draw}
 use Rattle.m2_shared.specs.declared.draw.Draw.TheVariants as draw
 use Rattle.m2_shared.specs.Numbers.{SeenNumberPass}
-use Rattle.m2_shared.specs.Place.{IsAlone}
-use Rattle.m2_shared.specs.Throttle.{SeenTakePass}
+use Rattle.m2_shared.specs.Gates.{Return}
+use Rattle.m2_shared.specs.declared.throttles.TakePasses.{TakePasses}
 use Rattle.m2_trail.specs.Asks.{AgreesWith, facts_of_ask}
 use Rattle.m2_trail.specs.Incoming.{IncomingNow, IsAnswered, after_replying}
 use Rattle.m2_trail.specs.Arrivals.{closed_of}
@@ -38,18 +38,18 @@ pub record CanBeHeard (a : IncomingNow) (r : RecordNow) : Type 0 where
 -- what judging changes: the record, and the passes of the thread
 pub record Judging : Type 0 where
   pub side : RecordNow
-  pub bytes : SeenTakePass
+  pub bytes : TakePasses
   pub numbers : SeenNumberPass
 
 abbrev pub judging : RecordNow → Work → Judging
-judging side w = record { side = side; bytes = w.take_pass.now; numbers = w.number_pass.now }
+judging side w = record { side = side; bytes = w.passes.now; numbers = w.number_pass.now }
 
 -- a number is drawn, and the record judges the ask with it
 pub record Judges {E : Type 0} (j : Judged E) (a : IncomingNow) (m : Means) (old new : Judging) : Type 0 where
   pub number : ℕ
   pub draws : IsDraw m.counter (draw.Number number) old.numbers new.numbers
   pub judges : IfSome a.ask (λ ask. JudgesAs j (verdict_on (facts_of_ask ask) number old.side.core.live) a m.now old.side new.side)
-  pub gives : IsAlone m.throttle.place → new.bytes.word ≡ old.bytes.word - given_back j old.side.core.live.granted
+  pub gives : Return (given_back j old.side.core.live.granted) m.throttles old.bytes new.bytes
 
 -- no number: none is left, or another thread drew one between
 abbrev pub IsUndrawn : Draw → Type 0

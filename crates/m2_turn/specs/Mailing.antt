@@ -7,8 +7,9 @@ use Rattle.m2_dispatch.specs.declared.parcel.Parcel.{Parcel}
 use Rattle.m2_dispatch.specs.Dispatch.{Queued}
 use Rattle.m2_dispatch.specs.Letters.{granted, heard_in}
 use Rattle.m2_dispatch.specs.Parcel.{after_put, heard_at_put, thrown_away}
-use Rattle.m2_shared.specs.Place.{Place, IsAlone}
-use Rattle.m2_shared.specs.Throttle.{SeenTakePass}
+use Rattle.m2_shared.specs.Place.{IsAlone}
+use Rattle.m2_shared.specs.Gates.{Gate, Places, words}
+use Rattle.m2_shared.specs.declared.throttles.TakePasses.{TakePasses}
 use Rattle.m2_turn.specs.declared.mailing.Mailed.{Mailed}
 use Rattle.m2_turn.specs.declared.mailing.Mailed.TheVariants as mailed
 use Rattle.m2_turn.specs.Outbox.{OutboxNow}
@@ -39,40 +40,40 @@ heard_at_puts (x ∷ xs) = heard_at_put x ++ heard_at_puts xs
 -- the queue, and the pass of the thread
 pub record Queueing (D : Type 0) : Type 0 where
   pub queued : Queued D
-  pub bytes : SeenTakePass
+  pub bytes : TakePasses
 
 -- where parcels are taken from, and the queue that they are put into
 pub record Mailing (D : Type 0) : Type 0 where
   pub out : OutboxNow D
   pub queue : Queueing D
 
-abbrev pub queueing : {D : Type 0} → Queued D → SeenTakePass → Queueing D
+abbrev pub queueing : {D : Type 0} → Queued D → TakePasses → Queueing D
 queueing queued bytes = record { queued = queued; bytes = bytes }
 
-abbrev pub mailing : {D : Type 0} → OutboxNow D → Queued D → SeenTakePass → Mailing D
+abbrev pub mailing : {D : Type 0} → OutboxNow D → Queued D → TakePasses → Mailing D
 mailing out queued bytes = record { out = out; queue = queueing queued bytes }
 
 -- The first parcels of the mail are put, in order, and no other.
-pub record PutsSome {D : Type 0} (heard : D → List Heard) (place : Place) (old new : Mailing D) : Type 0 where
+pub record PutsSome {D : Type 0} (heard : D → List Heard) (places : Places) (old new : Mailing D) : Type 0 where
   pub put : List Parcel
   pub mail : old.out.mail ≡ put ++ new.out.mail
   pub out : new.out ≡ record old.out { mail = new.out.mail }
   pub waiting : new.queue.queued.waiting ≡ after_puts put old.queue.queued.waiting
   pub heard_more : heard new.queue.queued.inner ≡ heard old.queue.queued.inner ++ heard_at_puts put
-  pub word : IsAlone place → new.queue.bytes.word ≡ old.queue.bytes.word - granted (all_thrown_away put old.queue.queued.waiting)
+  pub word : (gate : Gate) → IsAlone (places gate) → words new.queue.bytes gate ≡ words old.queue.bytes gate - granted (all_thrown_away put old.queue.queued.waiting) gate
 
 -- The first letters that wait are dispatched, in order, and no other.
-pub record DispatchesSome {D : Type 0} (heard : D → List Heard) (place : Place) (old new : Queueing D) : Type 0 where
+pub record DispatchesSome {D : Type 0} (heard : D → List Heard) (places : Places) (old new : Queueing D) : Type 0 where
   pub dispatched : List Letter
   pub waiting : old.queued.waiting ≡ dispatched ++ new.queued.waiting
   pub heard_more : heard new.queued.inner ≡ heard old.queued.inner ++ map heard_in dispatched
-  pub word : IsAlone place → new.bytes.word ≡ old.bytes.word - granted dispatched
+  pub word : (gate : Gate) → IsAlone (places gate) → words new.bytes gate ≡ words old.bytes gate - granted dispatched gate
 
 -- parcels are put, and behind them letters dispatched
-pub record MailsSome {D : Type 0} (heard : D → List Heard) (place : Place) (old new : Mailing D) : Type 0 where
+pub record MailsSome {D : Type 0} (heard : D → List Heard) (places : Places) (old new : Mailing D) : Type 0 where
   pub mid : Queueing D
-  pub puts : PutsSome heard place old (record { out = new.out; queue = mid })
-  pub dispatches : DispatchesSome heard place mid new.queue
+  pub puts : PutsSome heard places old (record { out = new.out; queue = mid })
+  pub dispatches : DispatchesSome heard places mid new.queue
 
 abbrev pub is_none : {X : Type 0} → List X → Bool
 is_none [] = true
@@ -84,13 +85,13 @@ is_mailed m = is_none m.out.mail && is_none m.queue.queued.waiting
 
 -- For want of memory: for a parcel, and it is the first in the mail; or all parcels were put, and for a letter, and it is the first
 -- that waits.
-abbrev pub LacksMemory : {D : Type 0} → (heard : D → List Heard) → Place → Mailing D → Mailing D → Type 0
-LacksMemory heard place old new =
-    (PutsSome heard place old new × (is_none new.out.mail ≡ false))
-    ⊎ (MailsSome heard place old new × (is_none new.out.mail ≡ true) × (is_none new.queue.queued.waiting ≡ false))
+abbrev pub LacksMemory : {D : Type 0} → (heard : D → List Heard) → Places → Mailing D → Mailing D → Type 0
+LacksMemory heard places old new =
+    (PutsSome heard places old new × (is_none new.out.mail ≡ false))
+    ⊎ (MailsSome heard places old new × (is_none new.out.mail ≡ true) × (is_none new.queue.queued.waiting ≡ false))
 
 -- Moved: there was something, and all of it is gone. Dry: there was nothing.
-abbrev pub Mails : {D : Type 0} → (heard : D → List Heard) → Place → Mailed → Mailing D → Mailing D → Type 0
-Mails heard place mailed.Moved old new = MailsSome heard place old new × (is_mailed old ≡ false) × (is_mailed new ≡ true)
-Mails heard place mailed.Dry old new = MailsSome heard place old new × (is_mailed old ≡ true) × (is_mailed new ≡ true)
-Mails heard place mailed.NoMemory old new = LacksMemory heard place old new
+abbrev pub Mails : {D : Type 0} → (heard : D → List Heard) → Places → Mailed → Mailing D → Mailing D → Type 0
+Mails heard places mailed.Moved old new = MailsSome heard places old new × (is_mailed old ≡ false) × (is_mailed new ≡ true)
+Mails heard places mailed.Dry old new = MailsSome heard places old new × (is_mailed old ≡ true) × (is_mailed new ≡ true)
+Mails heard places mailed.NoMemory old new = LacksMemory heard places old new

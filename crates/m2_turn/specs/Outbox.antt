@@ -12,7 +12,7 @@ use Rattle.m2_dispatch.specs.Letters.{IsOwnedLetter, heard_in}
 use Rattle.m2_policy.specs.declared.path.Path.{Path}
 use Rattle.m2_policy.specs.declared.path.Path.TheVariants.{Fast, Queued}
 use Rattle.m2_record.specs.Calls.{all_granted}
-use Rattle.m2_shared.specs.Place.{Place}
+use Rattle.m2_shared.specs.Gates.{Gate, Places, held}
 use Rattle.m2_turn.specs.declared.outbox.TheConstants.{MOST_MAIL}
 
 -- the dispatcher of fast kinds; the parcels in the mail, in order; and a letter of a fast kind that it couldn't take yet
@@ -28,22 +28,22 @@ abbrev pub IsFastHeld : Option Letter → Type 0
 IsFastHeld (Some l) = IsFast l
 IsFastHeld None = Unit {0}
 
-abbrev pub OwnsHeld : Place → Option Letter → Type 0
-OwnsHeld place (Some l) = IsOwnedLetter place l
-OwnsHeld place None = Unit {0}
+abbrev pub OwnsHeld : Places → Option Letter → Type 0
+OwnsHeld places (Some l) = IsOwnedLetter places l
+OwnsHeld places None = Unit {0}
 
--- all that is held and in the mail was granted by the throttle whose word lies there
-pub record OwnsAll {D : Type 0} (place : Place) (o : OutboxNow D) : Type 0 where
-  pub held : OwnsHeld place o.held
-  pub mail : AllByRecursion (IsOwned place) o.mail
+-- all that is held and in the mail was granted by the throttles whose words lie there
+pub record OwnsAll {D : Type 0} (places : Places) (o : OutboxNow D) : Type 0 where
+  pub held : OwnsHeld places o.held
+  pub mail : AllByRecursion (IsOwned places) o.mail
 
--- how many bytes were granted for all of it
-abbrev pub held_in : Option Letter → ℕ
-held_in (Some l) = l.grant.n
-held_in None = 0
+-- how much was granted for all of it at a gate
+abbrev pub held_in : Option Letter → Gate → ℕ
+held_in (Some l) gate = held l.grants gate
+held_in None gate = 0
 
-abbrev pub granted_in : {D : Type 0} → OutboxNow D → ℕ
-granted_in o = all_granted o.mail + held_in o.held
+abbrev pub granted_in : {D : Type 0} → OutboxNow D → Gate → ℕ
+granted_in o gate = all_granted o.mail gate + held_in o.held gate
 
 -- a parcel may be put
 abbrev pub is_free : {D : Type 0} → OutboxNow D → Bool
@@ -61,9 +61,9 @@ abbrev pub Dispatches : {D : Type 0} → (heard : D → List Heard) → Letter �
 Dispatches heard l old new = DispatchesOr heard l old new new.held
 
 -- what is given back for it
-abbrev pub returned_for : Letter → (held : Option Letter) → ℕ
-returned_for l None = l.grant.n
-returned_for l (Some kept) = 0
+abbrev pub returned_for : Letter → (kept : Option Letter) → Gate → ℕ
+returned_for l None gate = held l.grants gate
+returned_for l (Some kept) gate = 0
 
 -- by the letter that was held
 abbrev pub RetriesFor : {D : Type 0} → (heard : D → List Heard) → Option Letter → OutboxNow D → OutboxNow D → Type 0
@@ -73,9 +73,9 @@ RetriesFor heard None old new = new ≡ old
 abbrev pub Retries : {D : Type 0} → (heard : D → List Heard) → OutboxNow D → OutboxNow D → Type 0
 Retries heard old new = RetriesFor heard old.held old new
 
-abbrev pub returned_again : (old new : Option Letter) → ℕ
-returned_again (Some l) held = returned_for l held
-returned_again None held = 0
+abbrev pub returned_again : (old new : Option Letter) → Gate → ℕ
+returned_again (Some l) kept gate = returned_for l kept gate
+returned_again None kept gate = 0
 
 -- ---- parcels
 
@@ -92,14 +92,14 @@ Puts heard (parcel.Letter l) old new = PutsLetter heard l l.key.path old new
 Puts heard (parcel.Discard peer) old new = new ≡ in_mail (parcel.Discard peer) old
 Puts heard (parcel.RemoteReset peer) old new = new ≡ in_mail (parcel.RemoteReset peer) old
 
-abbrev pub returned_on : Letter → Path → (held : Option Letter) → ℕ
-returned_on l Fast held = returned_for l held
-returned_on l Queued held = 0
+abbrev pub returned_on : Letter → Path → (kept : Option Letter) → Gate → ℕ
+returned_on l Fast kept gate = returned_for l kept gate
+returned_on l Queued kept gate = 0
 
-abbrev pub returned : Parcel → (held : Option Letter) → ℕ
-returned (parcel.Letter l) held = returned_on l l.key.path held
-returned (parcel.Discard peer) held = 0
-returned (parcel.RemoteReset peer) held = 0
+abbrev pub returned : Parcel → (kept : Option Letter) → Gate → ℕ
+returned (parcel.Letter l) kept gate = returned_on l l.key.path kept gate
+returned (parcel.Discard peer) kept gate = 0
+returned (parcel.RemoteReset peer) kept gate = 0
 
 -- the first of the mail goes; none exactly where it is empty
 abbrev pub Takes : {D : Type 0} → Option Parcel → OutboxNow D → OutboxNow D → Type 0

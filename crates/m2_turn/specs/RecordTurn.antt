@@ -10,31 +10,33 @@ use Rattle.m2_record.specs.IsRecord.{IsRecord}
 use Rattle.m2_record.specs.RecordNow.{RecordNow}
 use Rattle.m2_record.specs.Stepping.{StepsAs, Worked}
 use Rattle.m2_shared.specs.Numbers.{SeenNumberPass}
-use Rattle.m2_shared.specs.Place.{IsAlone, Place}
-use Rattle.m2_shared.specs.Throttle.{SeenTakePass, SeenThrottle}
+use Rattle.m2_shared.specs.Place.{Place}
+use Rattle.m2_shared.specs.Gates.{Return}
+use Rattle.m2_shared.specs.declared.throttles.TakePasses.{TakePasses}
+use Rattle.m2_shared.specs.declared.throttles.Throttles.{Throttles}
 use Rattle.m2_turn.specs.declared.record_turn.RecordTurn.{RecordTurn}
 use Rattle.m2_turn.specs.declared.record_turn.RecordTurn.TheVariants as turn
 use Rattle.m2_turn.specs.declared.record_turn.TheConstants.{MOST_STEPS}
 use Rattle.m2_turn.specs.Outbox.{OutboxNow, Puts, is_free, returned}
 
--- the moment, the node's throttle, and where its counter of global numbers lies
+-- the moment, the node's throttles, and where its counter of global numbers lies
 pub record Means : Type 0 where
   pub now : ℕ
-  pub throttle : SeenThrottle
+  pub throttles : Throttles
   pub counter : Place
 
 -- what a turn changes: the record, where its parcels go, and the passes of the thread
 pub record Turning (D : Type 0) : Type 0 where
   pub side : RecordNow
   pub out : OutboxNow D
-  pub bytes : SeenTakePass
+  pub bytes : TakePasses
   pub numbers : SeenNumberPass
 
 abbrev pub means_of : (now : ℕ) → Work → Means
-means_of now w = record { now = now; throttle = w.throttle.now; counter = w.numbers.now.place }
+means_of now w = record { now = now; throttles = w.throttles.now; counter = w.numbers.now.place }
 
 abbrev pub turning : {D : Type 0} → RecordNow → OutboxNow D → Work → Turning D
-turning side out w = record { side = side; out = out; bytes = w.take_pass.now; numbers = w.number_pass.now }
+turning side out w = record { side = side; out = out; bytes = w.passes.now; numbers = w.number_pass.now }
 
 -- ---- one step
 
@@ -43,17 +45,17 @@ abbrev pub PutsHanded : {D : Type 0} → (heard : D → List Heard) → Stepped 
 PutsHanded heard (stepped.Hand x) old new = Puts heard x old new
 PutsHanded heard answer old new = new ≡ old
 
--- what is given back for it to a throttle that is alone
-abbrev pub GivesHanded : {D : Type 0} → (throttle : SeenThrottle) → Stepped → OutboxNow D → SeenTakePass → SeenTakePass → Type 0
-GivesHanded throttle (stepped.Hand x) out before behind = IsAlone throttle.place → behind.word ≡ before.word - returned x out.held
-GivesHanded throttle answer out before behind = behind ≡ before
+-- what is given back for it to the throttles that are alone
+abbrev pub GivesHanded : {D : Type 0} → (throttles : Throttles) → Stepped → OutboxNow D → TakePasses → TakePasses → Type 0
+GivesHanded throttles (stepped.Hand x) out before behind = Return (returned x out.held) throttles before behind
+GivesHanded throttles answer out before behind = behind ≡ before
 
 -- how it works: with the pass before the step and behind it
-abbrev pub worked_by : {D : Type 0} → Means → Stepped → (behind : SeenTakePass) → Turning D → Turning D → Worked
+abbrev pub worked_by : {D : Type 0} → Means → Stepped → (behind : TakePasses) → Turning D → Turning D → Worked
 worked_by m answer behind old new = record {
   now = m.now;
   answer = answer;
-  bytes = record { throttle = m.throttle; before = old.bytes; behind = behind };
+  bytes = record { throttles = m.throttles; before = old.bytes; behind = behind };
   numbers = record { place = m.counter; before = old.numbers; behind = new.numbers };
 }
 
@@ -61,10 +63,10 @@ worked_by m answer behind old new = record {
 pub record TakesStep {D : Type 0} (heard : D → List Heard) (m : Means) (answer : Stepped) (old new : Turning D) : Type 0 where
   pub before : IsRecord old.side
   pub free : is_free old.out ≡ true
-  pub behind : SeenTakePass
+  pub behind : TakePasses
   pub steps : StepsAs answer (worked_by m answer behind old new) old.side new.side
   pub puts : PutsHanded heard answer old.out new.out
-  pub gives : GivesHanded m.throttle answer new.out behind new.bytes
+  pub gives : GivesHanded m.throttles answer new.out behind new.bytes
   pub stays : IsRecord new.side
 
 -- ---- a turn
@@ -78,8 +80,8 @@ LeadsOn _ = ⊥
 -- what it is said to have ended with
 abbrev pub EndsWith : RecordTurn → Stepped → Type 0
 EndsWith turn.Dry stepped.Dry = Unit {0}
-EndsWith (turn.Full held) (stepped.Full out) = held ≡ out
-EndsWith (turn.Again seen at) (stepped.Again was now) = (seen ≡ was) × (at ≡ now)
+EndsWith (turn.Full stage held) (stepped.Full full out) = (stage ≡ full) × (held ≡ out)
+EndsWith (turn.Again stage seen at) (stepped.Again changed was now) = (stage ≡ changed) × (seen ≡ was) × (at ≡ now)
 EndsWith turn.Spent stepped.Spent = Unit {0}
 EndsWith (turn.Faulted cause) (stepped.Faulted f) = cause ≡ f
 EndsWith turn.NoMemory stepped.NoMemory = Unit {0}

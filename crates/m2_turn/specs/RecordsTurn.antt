@@ -10,8 +10,8 @@ use Rattle.m2_record.specs.declared.work.Work.{Work}
 use Rattle.m2_record.specs.Due.{due_step, on_feed}
 use Rattle.m2_record.specs.RecordNow.{RecordNow}
 use Rattle.m2_shared.specs.Numbers.{SeenNumberPass}
-use Rattle.m2_shared.specs.Place.{IsAlone}
-use Rattle.m2_shared.specs.Throttle.{SeenTakePass}
+use Rattle.m2_shared.specs.Gates.{Return}
+use Rattle.m2_shared.specs.declared.throttles.TakePasses.{TakePasses}
 use Rattle.m2_turn.specs.declared.record_turn.RecordTurn.{RecordTurn}
 use Rattle.m2_turn.specs.declared.record_turn.RecordTurn.TheVariants as one
 use Rattle.m2_turn.specs.declared.records_turn.RecordsTurn.{RecordsTurn}
@@ -26,11 +26,11 @@ use Rattle.m2_turn.specs.RecordTurn.{Means, Turning, TurnsAs}
 pub record Around (D : Type 0) : Type 0 where
   pub port : SeenPort
   pub out : OutboxNow D
-  pub bytes : SeenTakePass
+  pub bytes : TakePasses
   pub numbers : SeenNumberPass
 
 abbrev pub around : {D : Type 0} → SeenPort → OutboxNow D → Work → Around D
-around port out w = record { port = port; out = out; bytes = w.take_pass.now; numbers = w.number_pass.now }
+around port out w = record { port = port; out = out; bytes = w.passes.now; numbers = w.number_pass.now }
 
 -- a record amid it
 pub record Amid (D : Type 0) : Type 0 where
@@ -122,7 +122,7 @@ TurnsInOrder heard m turn.NoMemory old new = StopsAtOne heard m old new
 pub record TurnsEach {D : Type 0} (heard : D → List Heard) (m : Means) (result : RecordsTurn) (old new : AllAmid D) : Type 0 where
   pub retried : Around D
   pub retries : Retries heard old.around.out retried.out
-  pub gives : IsAlone m.throttle.place → retried.bytes.word ≡ old.around.bytes.word - returned_again old.around.out.held retried.out.held
+  pub gives : Return (returned_again old.around.out.held retried.out.held) m.throttles old.around.bytes retried.bytes
   pub only : retried ≡ record old.around { out = retried.out; bytes = retried.bytes }
   pub turns : TurnsInOrder heard m result (all_amid old.records retried) new
 

@@ -12,7 +12,7 @@ use Rattle.m2_record.specs.declared.work.Work.{Work}
 use Rattle.m2_record.specs.Calls.{Owns}
 use Rattle.m2_record.specs.RecordNow.{RecordNow, ends_of, ids_of}
 use Rattle.m2_record.specs.TakenTrails.{judgements_in}
-use Rattle.m2_shared.specs.Place.{Place}
+use Rattle.m2_shared.specs.Gates.{Places, places}
 use Rattle.m2_trail.specs.Arrivals.{LooseNow}
 use Rattle.m2_trail.specs.Incoming.{IncomingNow}
 use Rattle.m2_turn.specs.Connecting.{IsMadeBy}
@@ -76,21 +76,21 @@ pub record WasCaller (made : List SocketId) (records : List RecordNow) (l : Loos
 
 -- ---- what the parts owe one another
 
--- the word of the node's throttle, and a global number that no record has used a greater one than
+-- where the words of the node's throttles lie, and a global number that no record has used a greater one than
 pub record Supply : Type 0 where
-  pub place : Place
+  pub places : Places
   pub least : ℕ
 
--- What the record holds was granted by the node's throttle, it has used no global number above those drawn, and each socket that
+-- What the record holds was granted by the node's throttles, it has used no global number above those drawn, and each socket that
 -- came to it is one of those that the port made.
 pub record IsSupplied (s : Supply) (at_port : List SocketId) (r : RecordNow) : Type 0 where
-  pub owned : Owns s.place r
+  pub owned : Owns s.places r
   pub top : r.core.top ≤ s.least
   pub made : IsMadeBy at_port r
 
 -- those of a thread's work
 abbrev pub supply_of : Work → Supply
-supply_of w = record { place = w.throttle.now.place; least = w.number_pass.now.least }
+supply_of w = record { places = places w.throttles.now; least = w.number_pass.now.least }
 
 abbrev pub sockets_of : Sessions → List SocketId
 sockets_of s = map (λ (p : PendingNow). p.half.end.id) s.halves ++ map (λ (l : LooseNow). l.end.id) s.loose

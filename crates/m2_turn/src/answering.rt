@@ -7,6 +7,7 @@ ghost use Rattle.m2_trail.specs.Asks.{is_ident};
 ghost use Rattle.m2_turn.specs.Answering.{AnswersHalf, IsKnown, RefusesHalf, RepliesHalf, StaysAnswered};
 ghost use Rattle.m2_turn.specs.Judging.{judging};
 ghost use Rattle.m2_turn.specs.RecordTurn.{means_of};
+ghost use Rattle.m2_shared.specs.Gates.{ArePassesOf, places};
 
 use crate::judging::{AskJudged, Replied, judge_ask, reply_owed};
 use m2_fabric::End;
@@ -42,18 +43,18 @@ pub fn answer_half<E: End>(
     requires known { IsKnown a side.old }
     requires numbers { work.old.number_pass.now.place ≡ work.old.numbers.now.place }
     requires top { side.old.core.top ≤ work.old.number_pass.now.least }
-    requires takes { work.old.take_pass.now.place ≡ work.old.throttle.now.place }
-    requires owned { Owns work.old.throttle.now.place side.old }
+    requires takes { ArePassesOf work.old.throttles.now work.old.passes.now }
+    requires owned { Owns (places work.old.throttles.now) side.old }
     ensures answers { AnswersHalf result a (means_of now work.old) (judging side.old work.old) (judging side.new work.new) }
     ensures stays { StaysAnswered result a side.old side.new }
     ensures top { side.new.core.top ≤ work.new.number_pass.now.least }
     ensures reached { KeepsReached work.old.number_pass.now work.new.number_pass.now }
-    ensures owned { Owns work.old.throttle.now.place side.new }
+    ensures owned { Owns (places work.old.throttles.now) side.new }
     ensures number_place { work.new.number_pass.now.place ≡ work.old.number_pass.now.place }
-    ensures take_place { work.new.take_pass.now.place ≡ work.old.take_pass.now.place }
+    ensures takes { ArePassesOf work.new.throttles.now work.new.passes.now }
     ensures same { IsSameWork work.old work.new }
     ensures number_pass { work.new.number_pass.ghost_name ≡ work.old.number_pass.ghost_name }
-    ensures take_pass { work.new.take_pass.ghost_name ≡ work.old.take_pass.ghost_name }
+    ensures passes { work.new.passes.ghost_name ≡ work.old.passes.ghost_name }
 {
     a.is_arrival();
     side.is_record();
@@ -72,17 +73,17 @@ fn look_and_answer<E: End>(
     requires known { IsKnown a side.old }
     requires numbers { work.old.number_pass.now.place ≡ work.old.numbers.now.place }
     requires top { side.old.core.top ≤ work.old.number_pass.now.least }
-    requires takes { work.old.take_pass.now.place ≡ work.old.throttle.now.place }
-    requires owned { Owns work.old.throttle.now.place side.old }
+    requires takes { ArePassesOf work.old.throttles.now work.old.passes.now }
+    requires owned { Owns (places work.old.throttles.now) side.old }
     ensures answers { AnswersHalf result a (means_of now work.old) (judging side.old work.old) (judging side.new work.new) }
     ensures top { side.new.core.top ≤ work.new.number_pass.now.least }
     ensures reached { KeepsReached work.old.number_pass.now work.new.number_pass.now }
-    ensures owned { Owns work.old.throttle.now.place side.new }
+    ensures owned { Owns (places work.old.throttles.now) side.new }
     ensures number_place { work.new.number_pass.now.place ≡ work.old.number_pass.now.place }
-    ensures take_place { work.new.take_pass.now.place ≡ work.old.take_pass.now.place }
+    ensures takes { ArePassesOf work.new.throttles.now work.new.passes.now }
     ensures same { IsSameWork work.old work.new }
     ensures number_pass { work.new.number_pass.ghost_name ≡ work.old.number_pass.ghost_name }
-    ensures take_pass { work.new.take_pass.ghost_name ≡ work.old.take_pass.ghost_name }
+    ensures passes { work.new.passes.ghost_name ≡ work.old.passes.ghost_name }
 {
     if a.is_judged() {
         return replied(a);

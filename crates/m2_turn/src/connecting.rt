@@ -2,7 +2,7 @@
 
 ghost use Rattle.std.specs.Prelude.{◌≡◌};
 ghost use Rattle.m2_record.specs.Calls.{Owns};
-ghost use Rattle.m2_shared.specs.Place.{Place};
+ghost use Rattle.m2_shared.specs.Gates.{Places};
 ghost use Rattle.m2_turn.specs.Beside.{KeepsCallers, MadeOn};
 ghost use Rattle.m2_turn.specs.Connecting.{DialsIfDue, IsMadeBy};
 
@@ -23,7 +23,7 @@ pub fn connect_if_due<P: Port>(
     ensures made { IsMadeBy (P.seen port.new).made side.new }
     ensures grows { MadeOn (P.seen port.old).made (P.seen port.new).made }
     ensures keeps { KeepsCallers (P.seen port.old).made side.old side.new }
-    ensures owned { (place : Place) → Owns place side.old → Owns place side.new }
+    ensures owned { (places : Places) → Owns places side.old → Owns places side.new }
     ensures top { side.new.core.top ≡ side.old.core.top }
 {
     let Due::Connect { at: _ } = side.due(now) else {

@@ -7,6 +7,7 @@ ghost use Rattle.m2_record.specs.Stepping.{IsSameWork};
 ghost use Rattle.m2_turn.specs.HalfTurn.{AnswersAsk, Others, TurnsHalf, TurnsOnce, asked_by, home_of_ask, homes, moved_by, with_half, with_moved, with_turned};
 ghost use Rattle.m2_turn.specs.RecordTurn.{means_of};
 ghost use Rattle.m2_turn.specs.Sessions.{AreConsistent, peer_of, supply_of};
+ghost use Rattle.m2_shared.specs.Gates.{ArePassesOf};
 
 use crate::answering::{HalfAnswered, answer_half};
 use crate::pending::Pending;
@@ -56,16 +57,16 @@ pub fn turn_half<E: End>(
     requires roster { roster.now ≡ map peer_of records.old }
     requires consistent { (c : Others) × AreConsistent (supply_of work.old) c.entity (with_half p c records.old) }
     requires numbers { work.old.number_pass.now.place ≡ work.old.numbers.now.place }
-    requires takes { work.old.take_pass.now.place ≡ work.old.throttle.now.place }
+    requires takes { ArePassesOf work.old.throttles.now work.old.passes.now }
     requires piece { length piece.old ≡ MOST_READ }
     ensures turns { TurnsHalf result p (means_of now work.old) (homes records.old work.old) (homes records.new work.new) }
     ensures consistent { (c : Others) → AreConsistent (supply_of work.old) c.entity (with_half p c records.old) → AreConsistent (supply_of work.new) c.entity (with_turned result c records.new) }
     ensures peers { map peer_of records.new ≡ map peer_of records.old }
     ensures number_place { work.new.number_pass.now.place ≡ work.old.number_pass.now.place }
-    ensures take_place { work.new.take_pass.now.place ≡ work.old.take_pass.now.place }
+    ensures takes { ArePassesOf work.new.throttles.now work.new.passes.now }
     ensures same { IsSameWork work.old work.new }
     ensures number_pass { work.new.number_pass.ghost_name ≡ work.old.number_pass.ghost_name }
-    ensures take_pass { work.new.take_pass.ghost_name ≡ work.old.take_pass.ghost_name }
+    ensures passes { work.new.passes.ghost_name ≡ work.old.passes.ghost_name }
 {
     let mut pending = p;
     'asks: for _ in 0..MOST_ASKS {
@@ -89,16 +90,16 @@ fn turn_once<E: End>(
     requires roster { roster.now ≡ map peer_of records.old }
     requires consistent { (c : Others) × AreConsistent (supply_of work.old) c.entity (with_half p c records.old) }
     requires numbers { work.old.number_pass.now.place ≡ work.old.numbers.now.place }
-    requires takes { work.old.take_pass.now.place ≡ work.old.throttle.now.place }
+    requires takes { ArePassesOf work.old.throttles.now work.old.passes.now }
     requires piece { length piece.old ≡ MOST_READ }
     ensures turns { TurnsOnce result p (means_of now work.old) (homes records.old work.old) (homes records.new work.new) }
     ensures consistent { (c : Others) → AreConsistent (supply_of work.old) c.entity (with_half p c records.old) → AreConsistent (supply_of work.new) c.entity (with_moved result c records.new) }
     ensures peers { map peer_of records.new ≡ map peer_of records.old }
     ensures number_place { work.new.number_pass.now.place ≡ work.old.number_pass.now.place }
-    ensures take_place { work.new.take_pass.now.place ≡ work.old.take_pass.now.place }
+    ensures takes { ArePassesOf work.new.throttles.now work.new.passes.now }
     ensures same { IsSameWork work.old work.new }
     ensures number_pass { work.new.number_pass.ghost_name ≡ work.old.number_pass.ghost_name }
-    ensures take_pass { work.new.take_pass.ghost_name ≡ work.old.take_pass.ghost_name }
+    ensures passes { work.new.passes.ghost_name ≡ work.old.passes.ghost_name }
 {
     turns_leave_the_half();
     let asker = p.asker;
@@ -124,15 +125,15 @@ fn answer_ask<E: End>(
     requires roster { roster.now ≡ map peer_of records.old }
     requires consistent { (c : Others) × AreConsistent (supply_of work.old) c.entity (with_half (record { half = a; asker = asker }) c records.old) }
     requires numbers { work.old.number_pass.now.place ≡ work.old.numbers.now.place }
-    requires takes { work.old.take_pass.now.place ≡ work.old.throttle.now.place }
+    requires takes { ArePassesOf work.old.throttles.now work.old.passes.now }
     ensures answers { AnswersAsk result (record { half = a; asker = asker }) (means_of now work.old) (homes records.old work.old) (homes records.new work.new) }
     ensures consistent { (c : Others) → AreConsistent (supply_of work.old) c.entity (with_half (record { half = a; asker = asker }) c records.old) → AreConsistent (supply_of work.new) c.entity (with_moved result c records.new) }
     ensures peers { map peer_of records.new ≡ map peer_of records.old }
     ensures number_place { work.new.number_pass.now.place ≡ work.old.number_pass.now.place }
-    ensures take_place { work.new.take_pass.now.place ≡ work.old.take_pass.now.place }
+    ensures takes { ArePassesOf work.new.throttles.now work.new.passes.now }
     ensures same { IsSameWork work.old work.new }
     ensures number_pass { work.new.number_pass.ghost_name ≡ work.old.number_pass.ghost_name }
-    ensures take_pass { work.new.take_pass.ghost_name ≡ work.old.take_pass.ghost_name }
+    ensures passes { work.new.passes.ghost_name ≡ work.old.passes.ghost_name }
 {
     a.is_arrival();
     are_records(records);

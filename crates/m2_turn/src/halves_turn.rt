@@ -7,6 +7,7 @@ ghost use Rattle.m2_turn.specs.HalfTurn.{homes};
 ghost use Rattle.m2_turn.specs.HalvesTurn.{TurnsHalves, TurnsOldest, callers, memory_in, over_by, sessions_of, stays_by};
 ghost use Rattle.m2_turn.specs.RecordTurn.{means_of};
 ghost use Rattle.m2_turn.specs.Sessions.{AreConsistent, peer_of, supply_of};
+ghost use Rattle.m2_shared.specs.Gates.{ArePassesOf};
 
 use crate::half_turn::{HalfTurned, turn_half};
 use crate::pending::{MOST_HALVES, Pendings};
@@ -40,17 +41,17 @@ pub fn turn_halves<E: End>(
     requires consistent { (made : List SocketId) × ((entity : ℕ) × AreConsistent (supply_of work.old) entity (sessions_of made (callers halves.old loose.old.items (homes records.old work.old)))) }
     requires room { length halves.old ≤ vec_capacity loose.old - vec_len loose.old }
     requires numbers { work.old.number_pass.now.place ≡ work.old.numbers.now.place }
-    requires takes { work.old.take_pass.now.place ≡ work.old.throttle.now.place }
+    requires takes { ArePassesOf work.old.throttles.now work.old.passes.now }
     requires piece { length piece.old ≡ MOST_READ }
     ensures turns { TurnsHalves E result (means_of now work.old) (callers halves.old loose.old.items (homes records.old work.old)) (callers halves.new loose.new.items (homes records.new work.new)) }
     ensures consistent { (made : List SocketId) (entity : ℕ) → AreConsistent (supply_of work.old) entity (sessions_of made (callers halves.old loose.old.items (homes records.old work.old))) → AreConsistent (supply_of work.new) entity (sessions_of made (callers halves.new loose.new.items (homes records.new work.new))) }
     ensures peers { map peer_of records.new ≡ map peer_of records.old }
     ensures room { length halves.new ≤ vec_capacity loose.new - vec_len loose.new }
     ensures number_place { work.new.number_pass.now.place ≡ work.old.number_pass.now.place }
-    ensures take_place { work.new.take_pass.now.place ≡ work.old.take_pass.now.place }
+    ensures takes { ArePassesOf work.new.throttles.now work.new.passes.now }
     ensures same { IsSameWork work.old work.new }
     ensures number_pass { work.new.number_pass.ghost_name ≡ work.old.number_pass.ghost_name }
-    ensures take_pass { work.new.take_pass.ghost_name ≡ work.old.take_pass.ghost_name }
+    ensures passes { work.new.passes.ghost_name ≡ work.old.passes.ghost_name }
 {
     let count = halves.len();
     'turns: for turned in 0..count {
@@ -82,17 +83,17 @@ fn turn_oldest<E: End>(
     requires few { length halves.old ≤ MOST_HALVES }
     requires room { length halves.old ≤ vec_capacity loose.old - vec_len loose.old }
     requires numbers { work.old.number_pass.now.place ≡ work.old.numbers.now.place }
-    requires takes { work.old.take_pass.now.place ≡ work.old.throttle.now.place }
+    requires takes { ArePassesOf work.old.throttles.now work.old.passes.now }
     requires piece { length piece.old ≡ MOST_READ }
     ensures turns { TurnsOldest E result (means_of now work.old) (callers halves.old loose.old.items (homes records.old work.old)) (callers halves.new loose.new.items (homes records.new work.new)) }
     ensures consistent { (made : List SocketId) (entity : ℕ) → AreConsistent (supply_of work.old) entity (sessions_of made (callers halves.old loose.old.items (homes records.old work.old))) → AreConsistent (supply_of work.new) entity (sessions_of made (callers halves.new loose.new.items (homes records.new work.new))) }
     ensures peers { map peer_of records.new ≡ map peer_of records.old }
     ensures room { length halves.new ≤ vec_capacity loose.new - vec_len loose.new }
     ensures number_place { work.new.number_pass.now.place ≡ work.old.number_pass.now.place }
-    ensures take_place { work.new.take_pass.now.place ≡ work.old.take_pass.now.place }
+    ensures takes { ArePassesOf work.new.throttles.now work.new.passes.now }
     ensures same { IsSameWork work.old work.new }
     ensures number_pass { work.new.number_pass.ghost_name ≡ work.old.number_pass.ghost_name }
-    ensures take_pass { work.new.take_pass.ghost_name ≡ work.old.take_pass.ghost_name }
+    ensures passes { work.new.passes.ghost_name ≡ work.old.passes.ghost_name }
 {
     let Some(oldest) = halves.pop() else {
         unreachable!()

@@ -3,7 +3,7 @@
 ghost use Rattle.std.specs.Prelude.{◌≡◌, ◌-◌, ◌++◌, not, true, false, IfErr, IfOk, OnErr, OnOk};
 ghost use Rattle.m2_dispatch.specs.Letters.{AreOwned, granted};
 ghost use Rattle.m2_dispatch.specs.Parcel.{IsOwned, after_put, heard_at_put, thrown_away};
-ghost use Rattle.m2_shared.specs.Place.{IsAlone, IsShared, Place};
+ghost use Rattle.m2_shared.specs.Gates.{ArePassesOf, AreShared, Return, places};
 ghost use Rattle.m2_turn.specs.HandingOn.{HandsAllOn, HandsLetters, HandsNoLetter, HandsOn, resets_on};
 ghost use Rattle.m2_turn.specs.Mailing.{Mails, PutsSome, is_none, mailing};
 ghost use Rattle.m2_turn.specs.Outbox.{OwnsAll};
@@ -12,32 +12,32 @@ use crate::mailing::{Mailed, moved_or_dry};
 use crate::outbox::Outbox;
 use m2_bytes::NoMemory;
 use m2_dispatch::{Dispatch, DispatchTurn, Dispatcher, Parcel};
-use m2_shared::{TakePass, Throttle};
+use m2_shared::{TakePasses, Throttles};
 use std::collections::VecDeque;
 
-/// Empties the mail into the node's queue, as [`empty_mail`](crate::empty_mail) does, by a throttle that threads share, and
-/// hands on what the dispatcher behind it is called with: each letter, grant and all, and each reset go last among these
+/// Empties the mail into the node's queue, as [`empty_mail`](crate::empty_mail) does, by throttles that threads share, and
+/// hands on what the dispatcher behind it is called with: each letter, grants and all, and each reset go last among these
 /// parcels, in the order of the calls. What was granted for the letters is out until whoever takes them gives it back.
 pub fn hand_mail_on<D: Dispatcher>(
     out: &mut Outbox<D>,
     queued: &mut Dispatch<D>,
-    throttle: &Throttle,
-    pass: &mut TakePass,
+    throttles: &Throttles,
+    passes: &mut TakePasses,
     into: &mut VecDeque<Parcel>,
 ) -> Mailed
-    requires pass { pass.old.place ≡ throttle.now.place }
-    requires shared { IsShared throttle.now.place }
-    requires out { OwnsAll throttle.now.place out.old }
-    requires letters { AreOwned throttle.now.place queued.old.waiting }
-    ensures mails { Mails D.heard throttle.now.place result (mailing out.old queued.old pass.old) (mailing out.new queued.new pass.new) }
-    ensures on { HandsOn D.heard throttle.now.place queued.old.inner queued.new.inner into.old.items into.new.items }
-    ensures dispatched { HandsLetters (mailing out.old queued.old pass.old) (mailing out.new queued.new pass.new) into.old.items into.new.items }
-    ensures out { OwnsAll throttle.now.place out.new }
-    ensures letters { AreOwned throttle.now.place queued.new.waiting }
-    ensures place { pass.new.place ≡ pass.old.place }
+    requires passes { ArePassesOf throttles.now passes.old }
+    requires shared { AreShared throttles.now }
+    requires out { OwnsAll (places throttles.now) out.old }
+    requires letters { AreOwned (places throttles.now) queued.old.waiting }
+    ensures mails { Mails D.heard (places throttles.now) result (mailing out.old queued.old passes.old) (mailing out.new queued.new passes.new) }
+    ensures on { HandsOn D.heard (places throttles.now) queued.old.inner queued.new.inner into.old.items into.new.items }
+    ensures dispatched { HandsLetters (mailing out.old queued.old passes.old) (mailing out.new queued.new passes.new) into.old.items into.new.items }
+    ensures out { OwnsAll (places throttles.now) out.new }
+    ensures letters { AreOwned (places throttles.now) queued.new.waiting }
+    ensures passes { ArePassesOf throttles.now passes.new }
 {
     let had_mail = out.has_mail();
-    match put_all_on(out, queued, throttle, pass, into) {
+    match put_all_on(out, queued, throttles, passes, into) {
         Ok(()) => {}
         Err(NoMemory) => return Mailed::NoMemory,
     }
@@ -51,23 +51,23 @@ pub fn hand_mail_on<D: Dispatcher>(
 fn put_all_on<D: Dispatcher>(
     out: &mut Outbox<D>,
     queued: &mut Dispatch<D>,
-    throttle: &Throttle,
-    pass: &mut TakePass,
+    throttles: &Throttles,
+    passes: &mut TakePasses,
     into: &mut VecDeque<Parcel>,
 ) -> Result<(), NoMemory>
-    requires pass { pass.old.place ≡ throttle.now.place }
-    requires out { OwnsAll throttle.now.place out.old }
-    requires letters { AreOwned throttle.now.place queued.old.waiting }
-    ensures puts { PutsSome D.heard throttle.now.place (mailing out.old queued.old pass.old) (mailing out.new queued.new pass.new) }
-    ensures on { HandsNoLetter D.heard throttle.now.place queued.old.inner queued.new.inner into.old.items into.new.items }
+    requires passes { ArePassesOf throttles.now passes.old }
+    requires out { OwnsAll (places throttles.now) out.old }
+    requires letters { AreOwned (places throttles.now) queued.old.waiting }
+    ensures puts { PutsSome D.heard (places throttles.now) (mailing out.old queued.old passes.old) (mailing out.new queued.new passes.new) }
+    ensures on { HandsNoLetter D.heard (places throttles.now) queued.old.inner queued.new.inner into.old.items into.new.items }
     ensures ok { OnOk result (is_none out.new.mail ≡ true) }
     ensures err { OnErr result (is_none out.new.mail ≡ false) }
-    ensures out { OwnsAll throttle.now.place out.new }
-    ensures letters { AreOwned throttle.now.place queued.new.waiting }
-    ensures place { pass.new.place ≡ pass.old.place }
+    ensures out { OwnsAll (places throttles.now) out.new }
+    ensures letters { AreOwned (places throttles.now) queued.new.waiting }
+    ensures passes { ArePassesOf throttles.now passes.new }
 {
     'putting: while let Some(parcel) = out.take() {
-        match put_on(queued, parcel, throttle, pass, into) {
+        match put_on(queued, parcel, throttles, passes, into) {
             Ok(()) => {}
             Err(parcel) => {
                 out.put_back(parcel);
@@ -82,34 +82,33 @@ fn put_all_on<D: Dispatcher>(
 fn put_on<D: Dispatcher>(
     queued: &mut Dispatch<D>,
     parcel: Parcel,
-    throttle: &Throttle,
-    pass: &mut TakePass,
+    throttles: &Throttles,
+    passes: &mut TakePasses,
     into: &mut VecDeque<Parcel>,
 ) -> Result<(), Parcel>
-    requires pass { pass.old.place ≡ throttle.now.place }
-    requires letters { AreOwned throttle.now.place queued.old.waiting }
-    requires parcel { IsOwned throttle.now.place parcel }
+    requires passes { ArePassesOf throttles.now passes.old }
+    requires letters { AreOwned (places throttles.now) queued.old.waiting }
+    requires parcel { IsOwned (places throttles.now) parcel }
     ensures waiting { OnOk result (queued.new.waiting ≡ after_put parcel queued.old.waiting) }
     ensures heard { OnOk result (D.heard queued.new.inner ≡ D.heard queued.old.inner ++ heard_at_put parcel) }
-    ensures word { IsAlone throttle.now.place
-        → OnOk result (pass.new.word ≡ pass.old.word - granted (thrown_away parcel queued.old.waiting)) }
+    ensures word { OnOk result (Return (granted (thrown_away parcel queued.old.waiting)) throttles.now passes.old passes.new) }
     ensures on { OnOk result (into.new.items ≡ into.old.items ++ resets_on parcel) }
     ensures back { IfErr result (λ back. back ≡ parcel) }
     ensures err_waiting { OnErr result (queued.new.waiting ≡ queued.old.waiting) }
     ensures err_heard { OnErr result (D.heard queued.new.inner ≡ D.heard queued.old.inner) }
-    ensures err_pass { OnErr result (pass.new ≡ pass.old) }
+    ensures err_passes { OnErr result (passes.new ≡ passes.old) }
     ensures err_into { OnErr result (into.new.items ≡ into.old.items) }
-    ensures pass { pass.new.place ≡ pass.old.place }
-    ensures letters { AreOwned throttle.now.place queued.new.waiting }
+    ensures passes { ArePassesOf throttles.now passes.new }
+    ensures letters { AreOwned (places throttles.now) queued.new.waiting }
 {
     if into.reserve(1).is_err() {
         return Err(parcel);
     }
     match parcel {
-        Parcel::Letter(letter) => queued.put(Parcel::Letter(letter), throttle, pass),
-        Parcel::Discard { peer } => queued.put(Parcel::Discard { peer }, throttle, pass),
+        Parcel::Letter(letter) => queued.put(Parcel::Letter(letter), throttles, passes),
+        Parcel::Discard { peer } => queued.put(Parcel::Discard { peer }, throttles, passes),
         Parcel::RemoteReset { peer } => {
-            queued.put(Parcel::RemoteReset { peer }, throttle, pass)?;
+            queued.put(Parcel::RemoteReset { peer }, throttles, passes)?;
             into.push_back_reserved(Parcel::RemoteReset { peer });
             Ok(())
         }

@@ -6,6 +6,7 @@ ghost use Rattle.m2_record.specs.Stepping.{IsSameWork, KeepsReached};
 ghost use Rattle.m2_trail.specs.Incoming.{IsAnswered};
 ghost use Rattle.m2_turn.specs.Judging.{CanBeHeard, JudgesAsk, RepliesAs, judging};
 ghost use Rattle.m2_turn.specs.RecordTurn.{means_of};
+ghost use Rattle.m2_shared.specs.Gates.{ArePassesOf, places};
 
 use m2_fabric::End;
 use m2_record::{Judged, Record, Work};
@@ -48,17 +49,17 @@ pub fn judge_ask<E: End>(
     requires can { CanBeHeard a side.old }
     requires numbers { work.old.number_pass.now.place ≡ work.old.numbers.now.place }
     requires top { side.old.core.top ≤ work.old.number_pass.now.least }
-    requires takes { work.old.take_pass.now.place ≡ work.old.throttle.now.place }
-    requires owned { Owns work.old.throttle.now.place side.old }
+    requires takes { ArePassesOf work.old.throttles.now work.old.passes.now }
+    requires owned { Owns (places work.old.throttles.now) side.old }
     ensures judges { JudgesAsk result a (means_of now work.old) (judging side.old work.old) (judging side.new work.new) }
     ensures top { side.new.core.top ≤ work.new.number_pass.now.least }
     ensures reached { KeepsReached work.old.number_pass.now work.new.number_pass.now }
-    ensures owned { Owns work.old.throttle.now.place side.new }
+    ensures owned { Owns (places work.old.throttles.now) side.new }
     ensures number_place { work.new.number_pass.now.place ≡ work.old.number_pass.now.place }
-    ensures take_place { work.new.take_pass.now.place ≡ work.old.take_pass.now.place }
+    ensures takes { ArePassesOf work.new.throttles.now work.new.passes.now }
     ensures same { IsSameWork work.old work.new }
     ensures number_pass { work.new.number_pass.ghost_name ≡ work.old.number_pass.ghost_name }
-    ensures take_pass { work.new.take_pass.ghost_name ≡ work.old.take_pass.ghost_name }
+    ensures passes { work.new.passes.ghost_name ≡ work.old.passes.ghost_name }
 {
     side.is_record();
     let number = match work.numbers.draw(work.number_pass) {
@@ -66,7 +67,7 @@ pub fn judge_ask<E: End>(
         Draw::Spent => return AskJudged::Undrawn(a),
         Draw::Again { seen: _, now: _ } => return AskJudged::Undrawn(a),
     };
-    match side.judge(a, number, work.throttle, work.take_pass, now) {
+    match side.judge(a, number, work.throttles, work.passes, now) {
         Judged::Taken(answer) => AskJudged::Taken(answer),
         Judged::Back { answer: _, arrival } => AskJudged::Owes(arrival),
         Judged::NoMemory(arrival) => AskJudged::NoMemory(arrival),

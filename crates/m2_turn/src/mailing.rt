@@ -5,11 +5,12 @@ ghost use Rattle.m2_dispatch.specs.Letters.{AreOwned};
 ghost use Rattle.m2_turn.specs.declared.mailing.Mailed.TheVariants as mailed;
 ghost use Rattle.m2_turn.specs.Mailing.{DispatchesSome, Mails, PutsSome, is_none, mailing, queueing};
 ghost use Rattle.m2_turn.specs.Outbox.{OwnsAll};
+ghost use Rattle.m2_shared.specs.Gates.{ArePassesOf, places};
 
 use crate::outbox::Outbox;
 use m2_bytes::NoMemory;
 use m2_dispatch::{Dispatch, DispatchTurn, Dispatcher};
-use m2_shared::{TakePass, Throttle};
+use m2_shared::{TakePasses, Throttles};
 
 /// What came of emptying the mail.
 #[derive(Clone, Copy, Debug, PartialEq, Eq)]
@@ -27,23 +28,23 @@ pub enum Mailed {
 pub fn empty_mail<D: Dispatcher>(
     out: &mut Outbox<D>,
     queued: &mut Dispatch<D>,
-    throttle: &Throttle,
-    pass: &mut TakePass,
+    throttles: &Throttles,
+    passes: &mut TakePasses,
 ) -> Mailed
-    requires pass { pass.old.place ≡ throttle.now.place }
-    requires out { OwnsAll throttle.now.place out.old }
-    requires letters { AreOwned throttle.now.place queued.old.waiting }
-    ensures mails { Mails D.heard throttle.now.place result (mailing out.old queued.old pass.old) (mailing out.new queued.new pass.new) }
-    ensures out { OwnsAll throttle.now.place out.new }
-    ensures letters { AreOwned throttle.now.place queued.new.waiting }
-    ensures place { pass.new.place ≡ pass.old.place }
+    requires passes { ArePassesOf throttles.now passes.old }
+    requires out { OwnsAll (places throttles.now) out.old }
+    requires letters { AreOwned (places throttles.now) queued.old.waiting }
+    ensures mails { Mails D.heard (places throttles.now) result (mailing out.old queued.old passes.old) (mailing out.new queued.new passes.new) }
+    ensures out { OwnsAll (places throttles.now) out.new }
+    ensures letters { AreOwned (places throttles.now) queued.new.waiting }
+    ensures passes { ArePassesOf throttles.now passes.new }
 {
     let had_mail = out.has_mail();
-    match put_all(out, queued, throttle, pass) {
+    match put_all(out, queued, throttles, passes) {
         Ok(()) => {}
         Err(NoMemory) => return Mailed::NoMemory,
     }
-    match dispatch_all(queued, throttle, pass) {
+    match dispatch_all(queued, throttles, passes) {
         Ok(had_letters) => moved_or_dry(had_mail, had_letters),
         Err(NoMemory) => Mailed::NoMemory,
     }
@@ -53,21 +54,21 @@ pub fn empty_mail<D: Dispatcher>(
 fn put_all<D: Dispatcher>(
     out: &mut Outbox<D>,
     queued: &mut Dispatch<D>,
-    throttle: &Throttle,
-    pass: &mut TakePass,
+    throttles: &Throttles,
+    passes: &mut TakePasses,
 ) -> Result<(), NoMemory>
-    requires pass { pass.old.place ≡ throttle.now.place }
-    requires out { OwnsAll throttle.now.place out.old }
-    requires letters { AreOwned throttle.now.place queued.old.waiting }
-    ensures puts { PutsSome D.heard throttle.now.place (mailing out.old queued.old pass.old) (mailing out.new queued.new pass.new) }
+    requires passes { ArePassesOf throttles.now passes.old }
+    requires out { OwnsAll (places throttles.now) out.old }
+    requires letters { AreOwned (places throttles.now) queued.old.waiting }
+    ensures puts { PutsSome D.heard (places throttles.now) (mailing out.old queued.old passes.old) (mailing out.new queued.new passes.new) }
     ensures ok { OnOk result (is_none out.new.mail ≡ true) }
     ensures err { OnErr result (is_none out.new.mail ≡ false) }
-    ensures out { OwnsAll throttle.now.place out.new }
-    ensures letters { AreOwned throttle.now.place queued.new.waiting }
-    ensures place { pass.new.place ≡ pass.old.place }
+    ensures out { OwnsAll (places throttles.now) out.new }
+    ensures letters { AreOwned (places throttles.now) queued.new.waiting }
+    ensures passes { ArePassesOf throttles.now passes.new }
 {
     'putting: while let Some(parcel) = out.take() {
-        match queued.put(parcel, throttle, pass) {
+        match queued.put(parcel, throttles, passes) {
             Ok(()) => {}
             Err(parcel) => {
                 out.put_back(parcel);
@@ -81,21 +82,21 @@ fn put_all<D: Dispatcher>(
 /// Dispatches until no letter waits, and says whether one did. Err is want of memory for the first that waits.
 fn dispatch_all<D: Dispatcher>(
     queued: &mut Dispatch<D>,
-    throttle: &Throttle,
-    pass: &mut TakePass,
+    throttles: &Throttles,
+    passes: &mut TakePasses,
 ) -> Result<bool, NoMemory>
-    requires pass { pass.old.place ≡ throttle.now.place }
-    requires letters { AreOwned throttle.now.place queued.old.waiting }
-    ensures dispatches { DispatchesSome D.heard throttle.now.place (queueing queued.old pass.old) (queueing queued.new pass.new) }
+    requires passes { ArePassesOf throttles.now passes.old }
+    requires letters { AreOwned (places throttles.now) queued.old.waiting }
+    ensures dispatches { DispatchesSome D.heard (places throttles.now) (queueing queued.old passes.old) (queueing queued.new passes.new) }
     ensures ok { OnOk result (is_none queued.new.waiting ≡ true) }
     ensures any { IfOk result (λ any. any ≡ not (is_none queued.old.waiting)) }
     ensures err { OnErr result (is_none queued.new.waiting ≡ false) }
-    ensures letters { AreOwned throttle.now.place queued.new.waiting }
-    ensures place { pass.new.place ≡ pass.old.place }
+    ensures letters { AreOwned (places throttles.now) queued.new.waiting }
+    ensures passes { ArePassesOf throttles.now passes.new }
 {
     let mut any = false;
     'turning: loop {
-        match queued.turn(throttle, pass) {
+        match queued.turn(throttles, passes) {
             DispatchTurn::One => any = true,
             DispatchTurn::Nothing => return Ok(any),
             DispatchTurn::NoMemory => return Err(NoMemory),

@@ -5,14 +5,14 @@ ghost use Rattle.std.specs.Option.{is_some};
 ghost use Rattle.m2_record.specs.Calls as calls;
 ghost use Rattle.m2_dispatch.specs.Letters.{IsOwnedLetter};
 ghost use Rattle.m2_dispatch.specs.Parcel.{IsOwned};
-ghost use Rattle.m2_shared.specs.Place.{IsAlone, Place};
+ghost use Rattle.m2_shared.specs.Gates.{ArePassesOf, Places, Return, places};
 ghost use Rattle.m2_turn.specs.declared.outbox.TheConstants.{MOST_MAIL};
 ghost use Rattle.m2_turn.specs.Mailing.{back_in_mail, is_none};
 ghost use Rattle.m2_turn.specs.Outbox.{Dispatches, IsFast, OwnsAll, Puts, Retries, Takes, granted_in, is_free, returned, returned_again, returned_for};
 
 use m2_dispatch::{Dispatcher, Letter, Parcel};
 use m2_policy::Path;
-use m2_shared::{TakePass, Throttle};
+use m2_shared::{TakePasses, Throttles};
 use std::alloc::Global;
 use std::collections::VecDeque;
 use std::marker::Model;
@@ -98,7 +98,7 @@ impl<D> Outbox<D> {
     pub fn take(&mut self) -> Option<Parcel>
         ensures takes { Takes result self.old self.new }
         ensures room { IfSome result (λ x. length self.new.mail < MOST_MAIL) }
-        ensures owned { (place : Place) → OwnsAll place self.old → IfSome result (IsOwned place) × OwnsAll place self.new }
+        ensures owned { (places : Places) → OwnsAll places self.old → IfSome result (IsOwned places) × OwnsAll places self.new }
     {
         self.mail.pop_front()
     }
@@ -107,7 +107,7 @@ impl<D> Outbox<D> {
     pub fn put_back(&mut self, parcel: Parcel)
         requires { length self.old.mail < MOST_MAIL }
         ensures back { self.new ≡ back_in_mail parcel self.old }
-        ensures owned { (place : Place) → IsOwned place parcel → OwnsAll place self.old → OwnsAll place self.new }
+        ensures owned { (places : Places) → IsOwned places parcel → OwnsAll places self.old → OwnsAll places self.new }
     {
         self.mail.push_front_reserved(parcel);
     }
@@ -125,12 +125,12 @@ impl<D> Outbox<D> {
 
     /// Gives back what was granted for all that is held and in the mail, throws that away, and gives the
     /// dispatcher of fast kinds.
-    pub fn clear(self, throttle: &Throttle, pass: &mut TakePass) -> D
-        requires pass { pass.old.place ≡ throttle.now.place }
-        requires all { OwnsAll throttle.now.place self }
+    pub fn clear(self, throttles: &Throttles, passes: &mut TakePasses) -> D
+        requires passes { ArePassesOf throttles.now passes.old }
+        requires all { OwnsAll (places throttles.now) self }
         ensures fast { result ≡ self.fast }
-        ensures place { pass.new.place ≡ pass.old.place }
-        ensures word { IsAlone throttle.now.place → pass.new.word ≡ pass.old.word - granted_in self }
+        ensures passes { ArePassesOf throttles.now passes.new }
+        ensures word { Return (granted_in self) throttles.now passes.old passes.new }
     {
         let Outbox {
             fast,
@@ -138,22 +138,22 @@ impl<D> Outbox<D> {
             held,
         } = self;
         'giving: while let Some(parcel) = mail.pop_front() {
-            give_back(parcel, throttle, pass);
+            give_back(parcel, throttles, passes);
         }
         mail.destroy_empty();
         if let Some(letter) = held {
-            give_back(Parcel::Letter(letter), throttle, pass);
+            give_back(Parcel::Letter(letter), throttles, passes);
         }
         fast
     }
 }
 
 /// Gives back what was granted for a parcel, and throws it away.
-fn give_back(parcel: Parcel, throttle: &Throttle, pass: &mut TakePass)
-    requires pass { pass.old.place ≡ throttle.now.place }
-    requires owned { IsOwned throttle.now.place parcel }
-    ensures place { pass.new.place ≡ pass.old.place }
-    ensures word { IsAlone throttle.now.place → pass.new.word ≡ pass.old.word - calls.granted_in parcel }
+fn give_back(parcel: Parcel, throttles: &Throttles, passes: &mut TakePasses)
+    requires passes { ArePassesOf throttles.now passes.old }
+    requires owned { IsOwned (places throttles.now) parcel }
+    ensures passes { ArePassesOf throttles.now passes.new }
+    ensures word { Return (calls.granted_in parcel) throttles.now passes.old passes.new }
 {
     match parcel {
         Parcel::Letter(letter) => {
@@ -163,9 +163,9 @@ fn give_back(parcel: Parcel, throttle: &Throttle, pass: &mut TakePass)
                 number: _,
                 life: _,
                 message: _,
-                grant,
+                grants,
             } = letter;
-            throttle.give(pass, grant);
+            grants.back(throttles, passes);
         }
         Parcel::Discard { peer: _ } => {}
         Parcel::RemoteReset { peer: _ } => {}
@@ -173,21 +173,21 @@ fn give_back(parcel: Parcel, throttle: &Throttle, pass: &mut TakePass)
 }
 
 impl<D: Dispatcher> Outbox<D> {
-    /// Takes a parcel. A letter of a fast kind is dispatched, and its grant given back; where the dispatcher
+    /// Takes a parcel. A letter of a fast kind is dispatched, and its grants given back; where the dispatcher
     /// lacks memory it is held. Each other parcel is last in the mail.
-    pub fn put(&mut self, parcel: Parcel, throttle: &Throttle, pass: &mut TakePass)
+    pub fn put(&mut self, parcel: Parcel, throttles: &Throttles, passes: &mut TakePasses)
         requires free { is_free self.old ≡ true }
-        requires pass { pass.old.place ≡ throttle.now.place }
-        requires owned { IsOwned throttle.now.place parcel }
-        requires all { OwnsAll throttle.now.place self.old }
+        requires passes { ArePassesOf throttles.now passes.old }
+        requires owned { IsOwned (places throttles.now) parcel }
+        requires all { OwnsAll (places throttles.now) self.old }
         ensures puts { Puts D.heard parcel self.old self.new }
-        ensures all { OwnsAll throttle.now.place self.new }
-        ensures place { pass.new.place ≡ pass.old.place }
-        ensures word { IsAlone throttle.now.place → pass.new.word ≡ pass.old.word - returned parcel self.new.held }
+        ensures all { OwnsAll (places throttles.now) self.new }
+        ensures passes { ArePassesOf throttles.now passes.new }
+        ensures word { Return (returned parcel self.new.held) throttles.now passes.old passes.new }
     {
         match parcel {
             Parcel::Letter(letter) => match letter.key.path {
-                Path::Fast => self.dispatch(letter, throttle, pass),
+                Path::Fast => self.dispatch(letter, throttles, passes),
                 Path::Queued => self.mail.push_back_reserved(Parcel::Letter(letter)),
             },
             Parcel::Discard { peer } => self.mail.push_back_reserved(Parcel::Discard { peer }),
@@ -200,30 +200,30 @@ impl<D: Dispatcher> Outbox<D> {
 
 impl<D: Dispatcher> Outbox<D> {
     /// Tries the letter that is held again, where one is.
-    pub fn retry(&mut self, throttle: &Throttle, pass: &mut TakePass)
-        requires pass { pass.old.place ≡ throttle.now.place }
-        requires all { OwnsAll throttle.now.place self.old }
+    pub fn retry(&mut self, throttles: &Throttles, passes: &mut TakePasses)
+        requires passes { ArePassesOf throttles.now passes.old }
+        requires all { OwnsAll (places throttles.now) self.old }
         ensures retries { Retries D.heard self.old self.new }
-        ensures all { OwnsAll throttle.now.place self.new }
-        ensures place { pass.new.place ≡ pass.old.place }
-        ensures word { IsAlone throttle.now.place → pass.new.word ≡ pass.old.word - returned_again self.old.held self.new.held }
+        ensures all { OwnsAll (places throttles.now) self.new }
+        ensures passes { ArePassesOf throttles.now passes.new }
+        ensures word { Return (returned_again self.old.held self.new.held) throttles.now passes.old passes.new }
     {
         if let Some(letter) = self.held.take() {
-            self.dispatch(letter, throttle, pass);
+            self.dispatch(letter, throttles, passes);
         }
     }
 
     /// Dispatches a letter of a fast kind, or holds it.
-    fn dispatch(&mut self, letter: Letter, throttle: &Throttle, pass: &mut TakePass)
+    fn dispatch(&mut self, letter: Letter, throttles: &Throttles, passes: &mut TakePasses)
         requires none { self.old.held ≡ None }
         requires kind { IsFast letter }
-        requires pass { pass.old.place ≡ throttle.now.place }
-        requires owned { IsOwnedLetter throttle.now.place letter }
-        requires all { OwnsAll throttle.now.place self.old }
+        requires passes { ArePassesOf throttles.now passes.old }
+        requires owned { IsOwnedLetter (places throttles.now) letter }
+        requires all { OwnsAll (places throttles.now) self.old }
         ensures dispatches { Dispatches D.heard letter self.old self.new }
-        ensures all { OwnsAll throttle.now.place self.new }
-        ensures place { pass.new.place ≡ pass.old.place }
-        ensures word { IsAlone throttle.now.place → pass.new.word ≡ pass.old.word - returned_for letter self.new.held }
+        ensures all { OwnsAll (places throttles.now) self.new }
+        ensures passes { ArePassesOf throttles.now passes.new }
+        ensures word { Return (returned_for letter self.new.held) throttles.now passes.old passes.new }
     {
         let Letter {
             peer,
@@ -231,10 +231,10 @@ impl<D: Dispatcher> Outbox<D> {
             number,
             life,
             message,
-            grant,
+            grants,
         } = letter;
         match self.fast.message(peer, key, number, life, message) {
-            Ok(()) => throttle.give(pass, grant),
+            Ok(()) => grants.back(throttles, passes),
             Err(message) => {
                 let letter = Letter {
                     peer,
@@ -242,7 +242,7 @@ impl<D: Dispatcher> Outbox<D> {
                     number,
                     life,
                     message,
-                    grant,
+                    grants,
                 };
                 match self.held.replace(letter) {
                     None => {}

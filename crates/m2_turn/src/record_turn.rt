@@ -7,12 +7,14 @@ ghost use Rattle.m2_turn.specs.Answering.{StaysBeside};
 ghost use Rattle.m2_turn.specs.Handing.{SaysMore};
 ghost use Rattle.m2_turn.specs.Outbox.{OwnsAll, is_free};
 ghost use Rattle.m2_turn.specs.RecordTurn.{StepsOnce, TurnsAs, means_of, turning};
+ghost use Rattle.m2_shared.specs.Gates.{ArePassesOf, places};
 
 use crate::outbox::Outbox;
 use m2_dispatch::Dispatcher;
 use m2_fabric::End;
 use m2_feed::WireFault;
 use m2_record::{Record, Stepped, Work};
+use m2_shared::Stage;
 
 /// How many steps a record takes in a turn at most.
 pub const MOST_STEPS: u32 = 4096;
@@ -22,10 +24,18 @@ pub const MOST_STEPS: u32 = 4096;
 pub enum RecordTurn {
     /// Nothing but a connect is due, or nothing more has come.
     Dry,
-    /// So many bytes are out that the size of a MESSAGE has to wait.
-    Full { held: u64 },
-    /// Another thread changed the throttle or the counter of global numbers at that moment.
-    Again { seen: u64, now: u64 },
+    /// So much is out at this stage that a MESSAGE has to wait.
+    Full {
+        stage: Stage,
+        held: u64,
+    },
+    /// Another thread changed the word of this stage at that moment, or where none is named the counter of
+    /// global numbers.
+    Again {
+        stage: Option<Stage>,
+        seen: u64,
+        now: u64,
+    },
     /// No global number is left for an ask.
     Spent,
     /// The feed was closed for this cause.
@@ -50,21 +60,21 @@ pub fn turn_record<E: End, D: Dispatcher>(
 ) -> RecordTurn
     requires numbers { work.old.number_pass.now.place ≡ work.old.numbers.now.place }
     requires top { side.old.core.top ≤ work.old.number_pass.now.least }
-    requires takes { work.old.take_pass.now.place ≡ work.old.throttle.now.place }
-    requires owned { Owns work.old.throttle.now.place side.old }
-    requires out { OwnsAll work.old.throttle.now.place out.old }
+    requires takes { ArePassesOf work.old.throttles.now work.old.passes.now }
+    requires owned { Owns (places work.old.throttles.now) side.old }
+    requires out { OwnsAll (places work.old.throttles.now) out.old }
     ensures turns { TurnsAs D.heard (means_of now work.old) result (turning side.old out.old work.old) (turning side.new out.new work.new) }
     ensures stays { StaysBeside side.old side.new }
     ensures handed { SaysMore handed.old handed.new side.old.handed side.new.handed }
     ensures top { side.new.core.top ≤ work.new.number_pass.now.least }
     ensures reached { KeepsReached work.old.number_pass.now work.new.number_pass.now }
-    ensures owned { Owns work.old.throttle.now.place side.new }
-    ensures out { OwnsAll work.old.throttle.now.place out.new }
+    ensures owned { Owns (places work.old.throttles.now) side.new }
+    ensures out { OwnsAll (places work.old.throttles.now) out.new }
     ensures number_place { work.new.number_pass.now.place ≡ work.old.number_pass.now.place }
-    ensures take_place { work.new.take_pass.now.place ≡ work.old.take_pass.now.place }
+    ensures takes { ArePassesOf work.new.throttles.now work.new.passes.now }
     ensures same { IsSameWork work.old work.new }
     ensures number_pass { work.new.number_pass.ghost_name ≡ work.old.number_pass.ghost_name }
-    ensures take_pass { work.new.take_pass.ghost_name ≡ work.old.take_pass.ghost_name }
+    ensures passes { work.new.passes.ghost_name ≡ work.old.passes.ghost_name }
 {
     'steps: for _ in 0..MOST_STEPS {
         if !out.is_free() {
@@ -88,21 +98,21 @@ fn step_once<E: End, D: Dispatcher>(
     requires free { is_free out.old ≡ true }
     requires numbers { work.old.number_pass.now.place ≡ work.old.numbers.now.place }
     requires top { side.old.core.top ≤ work.old.number_pass.now.least }
-    requires takes { work.old.take_pass.now.place ≡ work.old.throttle.now.place }
-    requires owned { Owns work.old.throttle.now.place side.old }
-    requires out { OwnsAll work.old.throttle.now.place out.old }
+    requires takes { ArePassesOf work.old.throttles.now work.old.passes.now }
+    requires owned { Owns (places work.old.throttles.now) side.old }
+    requires out { OwnsAll (places work.old.throttles.now) out.old }
     ensures steps { StepsOnce D.heard (means_of now work.old) result (turning side.old out.old work.old) (turning side.new out.new work.new) }
     ensures stays { StaysBeside side.old side.new }
     ensures handed { SaysMore handed.old handed.new side.old.handed side.new.handed }
     ensures top { side.new.core.top ≤ work.new.number_pass.now.least }
     ensures reached { KeepsReached work.old.number_pass.now work.new.number_pass.now }
-    ensures owned { Owns work.old.throttle.now.place side.new }
-    ensures out { OwnsAll work.old.throttle.now.place out.new }
+    ensures owned { Owns (places work.old.throttles.now) side.new }
+    ensures out { OwnsAll (places work.old.throttles.now) out.new }
     ensures number_place { work.new.number_pass.now.place ≡ work.old.number_pass.now.place }
-    ensures take_place { work.new.take_pass.now.place ≡ work.old.take_pass.now.place }
+    ensures takes { ArePassesOf work.new.throttles.now work.new.passes.now }
     ensures same { IsSameWork work.old work.new }
     ensures number_pass { work.new.number_pass.ghost_name ≡ work.old.number_pass.ghost_name }
-    ensures take_pass { work.new.take_pass.ghost_name ≡ work.old.take_pass.ghost_name }
+    ensures passes { work.new.passes.ghost_name ≡ work.old.passes.ghost_name }
 {
     side.is_record();
     let stepped = side.step(work, now);
@@ -111,12 +121,12 @@ fn step_once<E: End, D: Dispatcher>(
         Stepped::Moved => None,
         Stepped::Hand(parcel) => {
             *handed = true;
-            out.put(parcel, work.throttle, work.take_pass);
+            out.put(parcel, work.throttles, work.passes);
             None
         }
         Stepped::Dry => Some(RecordTurn::Dry),
-        Stepped::Full { held } => Some(RecordTurn::Full { held }),
-        Stepped::Again { seen, now } => Some(RecordTurn::Again { seen, now }),
+        Stepped::Full { stage, held } => Some(RecordTurn::Full { stage, held }),
+        Stepped::Again { stage, seen, now } => Some(RecordTurn::Again { stage, seen, now }),
         Stepped::Spent => Some(RecordTurn::Spent),
         Stepped::Faulted(cause) => Some(RecordTurn::Faulted(cause)),
         Stepped::NoMemory => Some(RecordTurn::NoMemory),

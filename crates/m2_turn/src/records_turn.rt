@@ -10,6 +10,7 @@ ghost use Rattle.m2_turn.specs.Outbox.{OwnsAll};
 ghost use Rattle.m2_turn.specs.RecordTurn.{means_of};
 ghost use Rattle.m2_turn.specs.RecordsTurn.{TurnsEach, TurnsInOrder, TurnsOne, all_amid, amid, around, come_to, is_idle, none_or_dry};
 ghost use Rattle.m2_turn.specs.Sessions.{IsSupplied, supply_of};
+ghost use Rattle.m2_shared.specs.Gates.{ArePassesOf, places};
 
 use crate::connecting::connect_if_due;
 use crate::outbox::Outbox;
@@ -41,9 +42,9 @@ pub fn turn_each<P: Port, D: Dispatcher>(
     now: u64,
 ) -> RecordsTurn
     requires numbers { work.old.number_pass.now.place ≡ work.old.numbers.now.place }
-    requires takes { work.old.take_pass.now.place ≡ work.old.throttle.now.place }
+    requires takes { ArePassesOf work.old.throttles.now work.old.passes.now }
     requires supplied { AllByRecursion (IsSupplied (supply_of work.old) (P.seen port.old).made) records.old }
-    requires out { OwnsAll work.old.throttle.now.place out.old }
+    requires out { OwnsAll (places work.old.throttles.now) out.old }
     ensures turns { TurnsEach D.heard (means_of now work.old) result (all_amid records.old (around (P.seen port.old) out.old work.old)) (all_amid records.new (around (P.seen port.new) out.new work.new)) }
     ensures handed { SaysMore handed.old handed.new (handed_in records.old) (handed_in records.new) }
     ensures supplied { AllByRecursion (IsSupplied (supply_of work.new) (P.seen port.new).made) records.new }
@@ -51,15 +52,15 @@ pub fn turn_each<P: Port, D: Dispatcher>(
     ensures keeps { AllKeepCallers (P.seen port.old).made records.old records.new }
     ensures made { MadeOn (P.seen port.old).made (P.seen port.new).made }
     ensures reached { KeepsReached work.old.number_pass.now work.new.number_pass.now }
-    ensures out { OwnsAll work.old.throttle.now.place out.new }
+    ensures out { OwnsAll (places work.old.throttles.now) out.new }
     ensures number_place { work.new.number_pass.now.place ≡ work.old.number_pass.now.place }
-    ensures take_place { work.new.take_pass.now.place ≡ work.old.take_pass.now.place }
+    ensures takes { ArePassesOf work.new.throttles.now work.new.passes.now }
     ensures same { IsSameWork work.old work.new }
     ensures number_pass { work.new.number_pass.ghost_name ≡ work.old.number_pass.ghost_name }
-    ensures take_pass { work.new.take_pass.ghost_name ≡ work.old.take_pass.ghost_name }
+    ensures passes { work.new.passes.ghost_name ≡ work.old.passes.ghost_name }
 {
     tops_fit(records);
-    out.retry(work.throttle, work.take_pass);
+    out.retry(work.throttles, work.passes);
     turn_in_order(records, port, out, work, handed, now)
 }
 
@@ -86,22 +87,22 @@ fn turn_in_order<P: Port, D: Dispatcher>(
     now: u64,
 ) -> RecordsTurn
     requires numbers { work.old.number_pass.now.place ≡ work.old.numbers.now.place }
-    requires takes { work.old.take_pass.now.place ≡ work.old.throttle.now.place }
+    requires takes { ArePassesOf work.old.throttles.now work.old.passes.now }
     requires supplied { AllByRecursion (IsSupplied (supply_of work.old) (P.seen port.old).made) records.old }
     requires fit { AllByRecursion TopFits records.old }
-    requires out { OwnsAll work.old.throttle.now.place out.old }
+    requires out { OwnsAll (places work.old.throttles.now) out.old }
     ensures turns { TurnsInOrder D.heard (means_of now work.old) result (all_amid records.old (around (P.seen port.old) out.old work.old)) (all_amid records.new (around (P.seen port.new) out.new work.new)) }
     ensures handed { SaysMore handed.old handed.new (handed_in records.old) (handed_in records.new) }
     ensures supplied { AllByRecursion (IsSupplied (supply_of work.new) (P.seen port.new).made) records.new }
     ensures keeps { AllKeepCallers (P.seen port.old).made records.old records.new }
     ensures made { MadeOn (P.seen port.old).made (P.seen port.new).made }
     ensures reached { KeepsReached work.old.number_pass.now work.new.number_pass.now }
-    ensures out { OwnsAll work.old.throttle.now.place out.new }
+    ensures out { OwnsAll (places work.old.throttles.now) out.new }
     ensures number_place { work.new.number_pass.now.place ≡ work.old.number_pass.now.place }
-    ensures take_place { work.new.take_pass.now.place ≡ work.old.take_pass.now.place }
+    ensures takes { ArePassesOf work.new.throttles.now work.new.passes.now }
     ensures same { IsSameWork work.old work.new }
     ensures number_pass { work.new.number_pass.ghost_name ≡ work.old.number_pass.ghost_name }
-    ensures take_pass { work.new.take_pass.ghost_name ≡ work.old.take_pass.ghost_name }
+    ensures passes { work.new.passes.ghost_name ≡ work.old.passes.ghost_name }
 {
     match records.split_first_mut() {
         None => RecordsTurn::Done,
@@ -122,9 +123,9 @@ fn turn_one<P: Port, D: Dispatcher>(
     now: u64,
 ) -> RecordsTurn
     requires numbers { work.old.number_pass.now.place ≡ work.old.numbers.now.place }
-    requires takes { work.old.take_pass.now.place ≡ work.old.throttle.now.place }
+    requires takes { ArePassesOf work.old.throttles.now work.old.passes.now }
     requires supplied { IsSupplied (supply_of work.old) (P.seen port.old).made side.old }
-    requires out { OwnsAll work.old.throttle.now.place out.old }
+    requires out { OwnsAll (places work.old.throttles.now) out.old }
     ensures turns { TurnsOne D.heard (means_of now work.old) result (amid side.old (around (P.seen port.old) out.old work.old)) (amid side.new (around (P.seen port.new) out.new work.new)) }
     ensures handed { SaysMore handed.old handed.new side.old.handed side.new.handed }
     ensures supplied { IsSupplied (supply_of work.new) (P.seen port.new).made side.new }
@@ -132,12 +133,12 @@ fn turn_one<P: Port, D: Dispatcher>(
     ensures keeps { KeepsCallers (P.seen port.old).made side.old side.new }
     ensures made { MadeOn (P.seen port.old).made (P.seen port.new).made }
     ensures reached { KeepsReached work.old.number_pass.now work.new.number_pass.now }
-    ensures out { OwnsAll work.old.throttle.now.place out.new }
+    ensures out { OwnsAll (places work.old.throttles.now) out.new }
     ensures number_place { work.new.number_pass.now.place ≡ work.old.number_pass.now.place }
-    ensures take_place { work.new.take_pass.now.place ≡ work.old.take_pass.now.place }
+    ensures takes { ArePassesOf work.new.throttles.now work.new.passes.now }
     ensures same { IsSameWork work.old work.new }
     ensures number_pass { work.new.number_pass.ghost_name ≡ work.old.number_pass.ghost_name }
-    ensures take_pass { work.new.take_pass.ghost_name ≡ work.old.take_pass.ghost_name }
+    ensures passes { work.new.passes.ghost_name ≡ work.old.passes.ghost_name }
 {
     if !out.is_free() {
         side.is_record();

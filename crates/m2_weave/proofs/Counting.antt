@@ -15,7 +15,8 @@ use Rattle.m2_weave.specs.Rule.{Woven, by_bytes, comes, strand_at, nothing_at_al
 use Rattle.m2_weave.specs.Counting.{place_in, writes, hands, judges, counted_item, counted_items, counted, IsNamed, AreNamed}
 use Rattle.m2_weave.specs.WeaveLaws.{CountersDecide}
 use Rattle.m2_weave.proofs.Fitting.{fits_by_count}
-use Rattle.m2_weave.proofs.Numbering.{zero_if, wrote_adds, counts_add, side_hand, side_judge, hand_side, judge_side, hand_judge, judge_hand}
+use Rattle.m2_bytes.proofs.m2_lemmas.Numbers.{zero_if}
+use Rattle.m2_weave.proofs.Numbering.{wrote_adds, counts_add, side_hand, side_judge, hand_side, judge_side, hand_judge, judge_hand}
 
 -- ---- what an item adds
 

@@ -7,6 +7,7 @@ use Rattle.m2_fabric.specs.Sockets.{same_socket, is_among}
 use Rattle.m2_weave.specs.Strands.{EndOf, StrandNow, end_in, has_opened, same_side}
 use Rattle.m2_weave.specs.Counting.{place_in, side_number, writes}
 use Rattle.m2_fabric.proofs.Sockets.{same_equal, same_refl}
+use Rattle.m2_bytes.proofs.m2_lemmas.Numbers.{zero_if}
 
 place-at : (x a b : SocketId) (m n : ℕ) (p q rest : Bool) → same_socket a x ≡ p → same_socket b x ≡ q → (if p then 0 else suc m) ≡ (if q then 0 else suc n) →
     (q || rest) ≡ true → (rest ≡ true → m ≡ n → a ≡ b) → a ≡ b
@@ -38,10 +39,6 @@ apart m n count true true h = grind (arith, nat_tests, h)
 apart m n count true false h = grind (arith, nat_tests, h)
 apart m n count false true h = grind (arith, nat_tests, h)
 apart m n count false false h = grind (arith, nat_tests, h)
-
-pub zero_if : (b : Bool) → ◌≡◌ {A = ℕ} (if b then 0 else 0) 0
-zero_if true = refl
-zero_if false = refl
 
 wrote-at : (names : List SocketId) (s : StrandNow) (e : EndOf) (k : SocketId) (count : ℕ) (b : Bool) → is_among e.socket names ≡ true → same_socket e.socket k ≡ b →
     (if writes names (end_in s k) == writes names e then count else 0)

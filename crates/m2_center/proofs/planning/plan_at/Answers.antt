@@ -1,4 +1,5 @@
-use Rattle.std.proofs.Common.{ap, ◌∙◌, ◌-◌}
+use Rattle.std.proofs.Common.{subst}
+use Rattle.m2_shared.specs.Gates.{Return}
 use Rattle.m2_center.proofs.Planned.{on_ok, planned_stays, returned_new, took_new, top_planned}
 use Rattle.m2_center.proofs.planning.plan_at.Goals as goal
 
@@ -20,7 +21,8 @@ returns-clause-top g c =
     c.take_next.new.side c.take_next.result c.args.now c.take_next.ensures.taken)
 
 pub returns-clause-word : goal.returns-clause-word
-returns-clause-word g c alone =
+returns-clause-word g c =
     on_ok c.take_next.result
-    (c.take_next.ensures.word alone ∙ ap (λ n. c.args.work.now.take_pass.now.word - n)
-    (returned_new c.args.side.now c.reserve.new.self c.add_step.new.side c.args.step c.is_record.ensures c.requires.taken c.reserve.ensures.only c.in_ok-add_step.ensures.ok))
+    (subst (λ n. Return n c.args.work.now.throttles.now c.args.work.now.passes.now c.take_next.new.work.passes.now)
+    (returned_new c.args.side.now c.reserve.new.self c.add_step.new.side c.args.step c.is_record.ensures c.requires.taken c.reserve.ensures.only c.in_ok-add_step.ensures.ok)
+    c.take_next.ensures.word)

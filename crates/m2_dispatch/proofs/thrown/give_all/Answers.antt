@@ -1,4 +1,5 @@
 use Rattle.std.proofs.Common.{drop, sym, ap, ◌∙◌, arith}
+use Rattle.m2_shared.specs.Gates.{places}
 use Rattle.m2_dispatch.specs.Letters.{granted}
 use Rattle.m2_dispatch.specs.Waiting.{letters_in}
 use Rattle.m2_dispatch.proofs.Letters.{emptied, granted-split, none-is, owned-drop}
@@ -9,14 +10,14 @@ letters-preserved c =
     let before = c.letters.invariant in
     record {
       ordered = c.take.ensures.ordered;
-      pass = c.give_back.ensures.pass ∙ before.pass;
-      owned = rw c.take.ensures.letters (owned-drop c.args.throttle.now.place (letters_in c.letters.waiting.items) before.owned);
-      word = λ alone. omega (
+      passes = c.give_back.ensures.passes;
+      owned = rw c.take.ensures.letters (owned-drop (places c.args.throttles.now) (letters_in c.letters.waiting.items) before.owned);
+      word = λ gate alone. omega (
         arith,
-        c.give_back.ensures.word alone,
-        before.word alone,
-        granted-split (letters_in c.letters.waiting.items) c.in-Some.letter c.in-Some.ensures.first,
-        ap granted c.take.ensures.letters,
+        c.give_back.ensures.word gate alone,
+        before.word gate alone,
+        granted-split gate (letters_in c.letters.waiting.items) c.in-Some.letter c.in-Some.ensures.first,
+        ap (λ xs. granted xs gate) c.take.ensures.letters,
       );
     }
 

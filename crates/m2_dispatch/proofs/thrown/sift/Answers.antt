@@ -1,9 +1,10 @@
-use Rattle.std.proofs.Common.{◌≡◌, ◌++◌, [], ◌∷◌, true, false, drop, length, refl, sym, ap, ◌∙◌, arith, append_assoc}
+use Rattle.std.proofs.Common.{◌≡◌, ◌++◌, [], ◌∷◌, true, false, drop, length, refl, sym, ap, subst, ◌∙◌, arith, append_assoc}
 use Rattle.std.proofs.lemmas.Bool.Decides.{nat_tests}
 use Rattle.m2_queues.proofs.ByRank.{Falls}
-use Rattle.m2_dispatch.specs.Letters.{granted, is_of_peer, letter_priority, of_peer, others}
+use Rattle.m2_shared.specs.Gates.{places}
+use Rattle.m2_dispatch.specs.Letters.{AreOwned, granted, is_of_peer, letter_priority, of_peer, others}
 use Rattle.m2_dispatch.specs.Waiting.{letters_in}
-use Rattle.m2_dispatch.proofs.Letters.{falls-without, first-is, granted-thrown, of_peer-kept, others-kept, others-thrown, owned-drop, put-next}
+use Rattle.m2_dispatch.proofs.Letters.{falls-without, first-is, owned-first, granted-thrown, of_peer-kept, others-kept, others-thrown, owned-drop, put-next}
 use Rattle.m2_dispatch.proofs.Ordered.{falls}
 use Rattle.m2_dispatch.proofs.thrown.sift.Goals as goal
 
@@ -13,10 +14,10 @@ letters-init c = record {
   moved = rw c.requires.nothing tt;
   falls = rw c.requires.nothing (falls c.args.from.now.items c.requires.ordered);
   room = c.requires.room;
-  pass = c.requires.pass;
+  passes = c.requires.passes;
   owned = c.requires.letters;
   letters = rw c.requires.nothing refl;
-  word = λ alone. refl;
+  word = λ gate alone. refl;
 }
 
 pub letters-preserved-then-letter-peer : goal.letters-preserved-then-letter-peer
@@ -32,15 +33,15 @@ letters-preserved-then-letter-peer c =
       moved = before.moved;
       falls = rw rest (falls-without (letters_in c.letters.into.items) l (drop 1 ls) (rw (← split) before.falls));
       room = omega (arith, before.room, ap length split, ap length rest);
-      pass = c.give_back.ensures.pass ∙ before.pass;
-      owned = rw rest (owned-drop c.args.throttle.now.place ls before.owned);
+      passes = c.give_back.ensures.passes;
+      owned = rw rest (owned-drop (places c.args.throttles.now) ls before.owned);
       letters = ap (λ xs. letters_in c.letters.into.items ++ xs) (ap (others c.args.peer) rest ∙ sym (ap (others c.args.peer) split ∙ others-thrown c.args.peer l (drop 1 ls) theirs)) ∙ before.letters;
-      word = λ alone. omega (
+      word = λ gate alone. omega (
         arith,
-        c.give_back.ensures.word alone,
-        before.word alone,
-        ap (λ xs. granted (of_peer c.args.peer xs)) split ∙ granted-thrown c.args.peer l (drop 1 ls) theirs,
-        ap (λ xs. granted (of_peer c.args.peer xs)) rest,
+        c.give_back.ensures.word gate alone,
+        before.word gate alone,
+        ap (λ xs. granted (of_peer c.args.peer xs) gate) split ∙ granted-thrown gate c.args.peer l (drop 1 ls) theirs,
+        ap (λ xs. granted (of_peer c.args.peer xs) gate) rest,
       );
     }
 
@@ -60,18 +61,24 @@ letters-preserved c =
       moved = c.add_reserved.ensures.ordered;
       falls = rw (joined, rest, append_assoc) falling;
       room = omega (arith, before.room, ap length split, ap length rest, c.add_reserved.ensures.room);
-      pass = before.pass;
-      owned = rw rest (owned-drop c.args.throttle.now.place ls before.owned);
+      passes = before.passes;
+      owned = rw rest (owned-drop (places c.args.throttles.now) ls before.owned);
       letters =
           ap (λ xs. xs ++ others c.args.peer (letters_in c.take.new.waiting.items)) joined
           ∙ ap (λ xs. (done ++ l ∷ []) ++ others c.args.peer xs) rest
           ∙ append_assoc done (l ∷ []) (others c.args.peer (drop 1 ls))
           ∙ ap (λ xs. done ++ xs) (sym (ap (others c.args.peer) split ∙ others-kept c.args.peer l (drop 1 ls) other))
           ∙ before.letters;
-      word = λ alone. omega (
+      word = λ gate alone. omega (
         arith,
-        before.word alone,
-        ap (λ xs. granted (of_peer c.args.peer xs)) split ∙ ap granted (of_peer-kept c.args.peer l (drop 1 ls) other),
-        ap (λ xs. granted (of_peer c.args.peer xs)) rest,
+        before.word gate alone,
+        ap (λ xs. granted (of_peer c.args.peer xs) gate) split ∙ ap (λ xs. granted xs gate) (of_peer-kept c.args.peer l (drop 1 ls) other),
+        ap (λ xs. granted (of_peer c.args.peer xs) gate) rest,
       );
     }
+
+pub give_back-requires-clause-letter : goal.give_back-requires-clause-letter
+give_back-requires-clause-letter c =
+    let ls = letters_in c.letters.from.items in
+    let split : ls ≡ c.in-Some.letter ∷ drop 1 ls = first-is ls c.in-Some.letter c.in-Some.ensures.first in
+    owned-first (places c.args.throttles.now) c.in-Some.letter (drop 1 ls) (subst (AreOwned (places c.args.throttles.now)) split c.letters.invariant.owned)

@@ -2,6 +2,7 @@
 use Rattle.std.proofs.Common.{◌≡◌, ◌-◌, ◌≤◌, ◌++◌, length}
 use Rattle.m2_queues.proofs.ByRank.{Falls}
 use Rattle.m2_shared.specs.Place.{IsAlone}
+use Rattle.m2_shared.specs.Gates.{ArePassesOf, Gate, places, words}
 use Rattle.m2_dispatch.specs.Letters.{AreOwned, granted, letter_priority, of_peer, others}
 use Rattle.m2_dispatch.specs.Waiting.{IsOrdered, letters_in}
 use Rattle.m2_dispatch.proofs.thrown.sift.Given as goal
@@ -12,11 +13,11 @@ invariant-letters l = record {
   moved : IsOrdered l.into.items;
   falls : Falls letter_priority (letters_in l.into.items ++ letters_in l.from.items);
   room : length (letters_in l.from.items) ≤ l.into.room;
-  pass : l.pass.place ≡ l.throttle.place;
-  owned : AreOwned l.throttle.place (letters_in l.from.items);
+  passes : ArePassesOf l.throttles l.passes;
+  owned : AreOwned (places l.throttles) (letters_in l.from.items);
   letters : letters_in l.into.items ++ others l.peer (letters_in l.from.items) ≡ others l.peer (letters_in l.initial.from.items);
-  word : IsAlone l.throttle.place
-      → l.pass.word - granted (of_peer l.peer (letters_in l.from.items)) ≡ l.initial.pass.word - granted (of_peer l.peer (letters_in l.initial.from.items));
+  word : (gate : Gate) → IsAlone (places l.throttles gate)
+      → words l.passes gate - granted (of_peer l.peer (letters_in l.from.items)) gate ≡ words l.initial.passes gate - granted (of_peer l.peer (letters_in l.initial.from.items)) gate;
 }
 
 abbrev pub decreases-letters : goal.decreases-letters

@@ -72,7 +72,7 @@ centers-preserved g c =
       steps = next_steps nodes x.centers steps l.center l.steps.rest.items its rest c.in-Some-next.ensures.items l.invariant.steps;
       passes = c.in_ok-made.ensures.passes ∙ l.invariant.passes;
       added = one_added_more nodes links steps k word x c.args.shares.now c.args.start l.center c.new.result c.args.workers.now.items l.workers.items c.push_reserved.new.self.items l.invariant.added
-          c.push_reserved.ensures.items (ap (λ (v : WorkerNow). v.started) c.new.ensures) (ap (λ (v : WorkerNow). v.numbers) c.new.ensures) (ap (λ (v : WorkerNow). v.throttle) c.new.ensures)
+          c.push_reserved.ensures.items (ap (λ (v : WorkerNow). v.started) c.new.ensures) (ap (λ (v : WorkerNow). v.numbers) c.new.ensures) (ap (λ (v : WorkerNow). v.throttles) c.new.ensures)
           (ap (λ (v : WorkerNow). v.moment) c.new.ensures)
           (subst (IsBeginning nodes links steps k l.center word x) (sym (ap (λ (v : WorkerNow). v.center) c.new.ensures)) begins);
       room = omega (arith, l.invariant.room, c.push_reserved.ensures.len, c.push_reserved.ensures.capacity);

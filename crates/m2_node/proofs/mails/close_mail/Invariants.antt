@@ -7,7 +7,7 @@ use Rattle.m2_node.proofs.mails.close_mail.Given as goal
 
 abbrev pub invariant-left : goal.invariant-left
 invariant-left g l = record {
-  owner : (rest_owner l.rest).place ≡ l.to.place;
+  owner : (rest_owner l.rest).of ≡ l.to.throttles;
   puts : rest_puts l.rest ≡ puts_of l.fn.put;
   so_far : LeftSoFar (taken_of l.fn.get) (rest_taken l.rest) l.fn.to l.to;
 }

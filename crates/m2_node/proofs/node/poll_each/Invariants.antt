@@ -8,5 +8,5 @@ use Rattle.m2_node.proofs.node.poll_each.Given as goal
 abbrev pub invariant-centers : goal.invariant-centers
 invariant-centers g l = record {
   done : AreDone PollsSo l.j l.fn.centers.items l.centers.items;
-  served : AllByRecursion (IsServedBy l.shared.numbers l.shared.throttle) l.centers.items;
+  served : AllByRecursion (IsServedBy l.shared.numbers l.shared.throttles) l.centers.items;
 }

@@ -11,8 +11,8 @@ use Rattle.m2_node.proofs.node.turn_each.Given as goal
 
 abbrev pub invariant-centers : goal.invariant-centers
 invariant-centers g l = record {
-  done : AreDone (TurnsSo (RunEnd g.row.P-End.Denot) l.now l.shared.numbers l.shared.throttle) l.j l.fn.centers.items l.centers.items;
-  served : AllByRecursion (IsServedBy l.shared.numbers l.shared.throttle) l.centers.items;
-  dispatched : IsDispatched l.shared.throttle.place l.centers.items l.dispatcher;
+  done : AreDone (TurnsSo (RunEnd g.row.P-End.Denot) l.now l.shared.numbers l.shared.throttles) l.j l.fn.centers.items l.centers.items;
+  served : AllByRecursion (IsServedBy l.shared.numbers l.shared.throttles) l.centers.items;
+  dispatched : IsDispatched l.shared.throttles l.centers.items l.dispatcher;
   none : l.parcels.items ≡ [];
 }

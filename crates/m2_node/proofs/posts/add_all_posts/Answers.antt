@@ -47,7 +47,7 @@ add_posts-requires-clause-shared g c =
     let s : ShareNow = c.index-shares-k.result in
     let within = share_there c.args.nodes.now shares (reverse l.workers.items) l.k c.nodes-test.true l.invariant.so_far.groups in
     let there : slice_get shares l.k ≡ Some s = slice_get-get_or shares l.k s within ∙ ap Some (sym c.index-shares-k.is) in
-    (all_at IsShare shares l.k s there c.requires.shared).throttle
+    (all_at IsShare shares l.k s there c.requires.shared).throttles
 
 pub add_posts-requires-clause-right : goal.add_posts-requires-clause-right
 add_posts-requires-clause-right g c =

@@ -1,6 +1,6 @@
 -- One thread more with its mail, and at the end the node's dispatcher.
 use Rattle.std.proofs.Common.{◌≡◌, ◌∙◌, ◌-◌, ◌++◌, ◌∷◌, [], ℕ, List, false, length, reverse, take, drop, ap, subst, arith}
-use Rattle.m2_dispatch.specs.m2_shared.Place.{Place}
+use Rattle.m2_dispatch.specs.m2_shared.declared.throttles.Throttles.{Throttles}
 use Rattle.m2_node.specs.Dispatching.{DispatcherNow, IsNewMail, ServingNow}
 use Rattle.m2_node.specs.Posts.{PostsNow}
 use Rattle.m2_node.specs.Sharing.{ShareNow}
@@ -41,7 +41,7 @@ centers-preserved g c =
     let get = c.in_ok-mail.get in
     let w = c.in-Some.worker in
     let rest = reverse c.pop.new.self.items in
-    let new = subst (λ (p : Place). IsNewMail p mail put get) (ap (λ (t : ShareNow). t.throttle.place) c.shares.view_is) c.in_ok-mail.ensures in
+    let new = subst (λ (t : Throttles). IsNewMail t mail put get) (ap (λ (v : ShareNow). v.throttles) c.shares.view_is) c.in_ok-mail.ensures in
     record {
       added = next_added s x.centers l.counter old.senders.items old.mails.items l.posts.senders.items c.push_reserved-in-centers.new.self.items l.posts.mails.items c.push_reserved.new.self.items
           l.gets.items c.push.new.self.items (reverse l.workers.items) rest (take x.centers ws) (drop x.centers ws) w mail put get c.new.result.items c.centers-test.true c.requires.shared
@@ -63,9 +63,9 @@ returns-clause-adds g c =
     let old : PostsNow = record { senders = p.senders.items; servers = p.servers.items; mails = p.mails.items } in
     let ws = reverse c.args.workers.now.items in
     let gets = l.gets.items in
-    let at : _ ≡ s.throttle.place = ap (λ (t : ShareNow). t.throttle.place) c.shares.view_is in
-    let new : DispatcherNow = record { place = s.throttle.place; log = []; lost = false } in
-    let is = c.new-2.ensures ∙ ap (λ (q : Place). record { place = q; log = []; lost = false }) at in
+    let at : _ ≡ s.throttles = ap (λ (v : ShareNow). v.throttles) c.shares.view_is in
+    let new : DispatcherNow = record { throttles = s.throttles; log = []; lost = false } in
+    let is = c.new-2.ensures ∙ ap (λ (t : Throttles). record { throttles = t; log = []; lost = false }) at in
     all_added x s x.centers l.counter old l.posts.senders.items l.posts.mails.items gets c.push_reserved-2.new.self.items (reverse l.workers.items) (take x.centers ws) (drop x.centers ws)
     c.centers-test.false c.requires.group l.invariant.added
     (c.push_reserved-2.ensures.items

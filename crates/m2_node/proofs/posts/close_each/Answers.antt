@@ -30,12 +30,12 @@ close_sender-worker-requires-clause-gets g c =
     let sender = ap reverse c.in-Some-pop-2.ensures.items ∙ reverse_last c.pop-in-Some-2.new.self.items c.in-Some-pop-2.sender in
     (next_closable _ _ _ _ _ _ _ _ _ _ _ _ _ _ _ _ get mail sender c.mails.invariant.so_far).0
 
-pub close_sender-worker-requires-clause-place : goal.close_sender-worker-requires-clause-place
-close_sender-worker-requires-clause-place g c =
+pub close_sender-worker-requires-clause-throttles : goal.close_sender-worker-requires-clause-throttles
+close_sender-worker-requires-clause-throttles g c =
     let get = ap reverse c.in-Some.ensures.items ∙ reverse_last c.pop.new.self.items c.in-Some.get in
     let mail = ap reverse c.in-Some-pop.ensures.items ∙ reverse_last c.pop-in-Some.new.self.items c.in-Some-pop.mail in
     let sender = ap reverse c.in-Some-pop-2.ensures.items ∙ reverse_last c.pop-in-Some-2.new.self.items c.in-Some-pop-2.sender in
-    (next_closable _ _ _ _ _ _ _ _ _ _ _ _ _ _ _ _ get mail sender c.mails.invariant.so_far).1 ∙ sym c.mails.invariant.so_far.place
+    (next_closable _ _ _ _ _ _ _ _ _ _ _ _ _ _ _ _ get mail sender c.mails.invariant.so_far).1 ∙ sym c.mails.invariant.so_far.throttles
 
 pub mails-preserved : goal.mails-preserved
 mails-preserved g c =

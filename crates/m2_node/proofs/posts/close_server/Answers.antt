@@ -19,8 +19,8 @@ close_each-requires-clause-closable g c =
     let ms = reverse c.args.mails.now.items in
     let ss = reverse c.args.senders.now.items in
     let gets : reverse c.reverse.new.self.items ≡ i.gets.items = ap reverse c.reverse.ensures.items ∙ reverse-reverse i.gets.items in
-    subst (λ (gs : List (GetPass Parcel Ids)). AreClosable i.dispatcher.place gs ms ss) (sym gets)
-    (subst (λ (v : ServingNow). AreClosable v.dispatcher.place v.gets ms ss) (sym c.server.view_is) c.requires.closable)
+    subst (λ (gs : List (GetPass Parcel Ids)). AreClosable i.dispatcher.throttles gs ms ss) (sym gets)
+    (subst (λ (v : ServingNow). AreClosable v.dispatcher.throttles v.gets ms ss) (sym c.server.view_is) c.requires.closable)
 
 pub close_each-requires-clause-room : goal.close_each-requires-clause-room
 close_each-requires-clause-room g c =
@@ -28,8 +28,8 @@ close_each-requires-clause-room g c =
     let same : length i.gets.items ≡ length c.args.server.gets = ap (λ (v : ServingNow). length v.gets) c.server.view_is in
     omega (arith, c.reverse.ensures.len, i.gets.ok.0, same, c.requires.room)
 
-pub returns-in-Ok-clause-place : goal.returns-in-Ok-clause-place
-returns-in-Ok-clause-place g c = c.in-Ok.ensures.closed.place ∙ ap (λ (v : ServingNow). v.dispatcher.place) c.server.view_is
+pub returns-in-Ok-clause-throttles : goal.returns-in-Ok-clause-throttles
+returns-in-Ok-clause-throttles g c = c.in-Ok.ensures.closed.throttles ∙ ap (λ (v : ServingNow). v.dispatcher.throttles) c.server.view_is
 
 pub returns-in-Ok-clause-handed : goal.returns-in-Ok-clause-handed
 returns-in-Ok-clause-handed g c =

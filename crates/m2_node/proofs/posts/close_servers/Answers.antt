@@ -77,7 +77,7 @@ nodes-preserved g c =
     let workers = c.close_server.new.workers in
     let few = enough nodes shares l.counter _ (reverse l.mails.items) _ (reverse l.senders.items) (reverse l.servers.items) (reverse c.pop.new.self.items) l.workers.items l.dispatchers.items x.item s.item c.in-Some.server x.there
     s.there first l.invariant.closed in
-    let shared = (all_at IsShare shares l.counter s.item s.there c.requires.shared).throttle in
+    let shared = (all_at IsShare shares l.counter s.item s.there c.requires.shared).throttles in
     let left : vec_len senders ≡ vec_len l.senders - length gets =
     omega (arith, senders.ok.0, length-reverse senders.items, ap length told.senders, length-drop (length gets) ss, length-reverse l.senders.items, l.senders.ok.0) in
     let more : vec_len workers ≡ vec_len l.workers + length gets =
@@ -93,7 +93,7 @@ nodes-preserved g c =
     ) in
     record {
       closed = one_more_server nodes shares l.counter _ (reverse l.mails.items) _ (reverse l.senders.items) (reverse l.servers.items) (reverse c.pop.new.self.items) l.workers.items l.dispatchers.items x.item s.item c.in-Some.server x.there
-          s.there first l.invariant.closed (reverse c.close_server.new.mails.items) (reverse senders.items) workers.items c.push_reserved.new.self.items d shared told.place told.handed told.mails
+          s.there first l.invariant.closed (reverse c.close_server.new.mails.items) (reverse senders.items) workers.items c.push_reserved.new.self.items d shared told.throttles told.handed told.mails
           told.senders told.workers c.push_reserved.ensures.items;
       worker_room = omega (arith, left, more, few, length-reverse l.senders.items, l.senders.ok.0, l.invariant.worker_room, c.close_server.ensures.capacity);
       dispatcher_room = omega (arith, l.invariant.dispatcher_room, c.in-Some.ensures.len, c.push_reserved.ensures.len, c.push_reserved.ensures.capacity);

@@ -3,10 +3,10 @@ use Rattle.m2_node.proofs.sharing.add_shares.Goals as goal
 
 pub returns : goal.returns
 returns c = record {
-  share = record { numbers = c.in_ok-numbers.numbers; throttle = c.in_ok-throttle.throttle };
-  pass = record { numbers = c.in_ok-numbers.number_pass; throttle = c.in_ok-throttle.take_pass };
-  shared = record { numbers = c.in_ok-numbers.ensures.shared; throttle = c.in_ok-throttle.ensures.shared };
-  first = record { numbers = c.in_ok-numbers.ensures.pass; throttle = c.in_ok-throttle.ensures.pass };
+  share = record { numbers = c.in_ok-numbers.numbers; throttles = c.in_ok-throttles.throttles };
+  pass = record { numbers = c.in_ok-numbers.number_pass; throttles = c.in_ok-throttles.passes };
+  shared = record { numbers = c.in_ok-numbers.ensures.shared; throttles = c.in_ok-throttles.ensures.shared };
+  first = record { numbers = c.in_ok-numbers.ensures.pass; throttles = c.in_ok-throttles.ensures.passes };
   shares_are = cc;
   passes_are = cc;
 }

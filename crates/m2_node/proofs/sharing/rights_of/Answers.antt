@@ -3,10 +3,10 @@ use Rattle.std.proofs.Common.{◌≡◌, ◌∙◌, ◌+◌, ◌<◌, ℕ, List,
 use Rattle.std.specs.Prelude.{Some, slice_get, slice_set}
 use Rattle.std.proofs.lemmas.List.{set-get_or}
 use Rattle.std.proofs.lemmas.Option.{slice_get-get_or}
-use Rattle.m2_dispatch.specs.m2_shared.Throttle.{SeenTakePass, SeenThrottle}
+use Rattle.m2_dispatch.specs.m2_shared.Gates.{pass_places, places}
 use Rattle.m2_node.specs.Sharing.{AreFirstOf, AreRights, FirstPassesNow, ShareNow}
 use Rattle.m2_node.proofs.Beside.{side_length}
-use Rattle.m2_node.proofs.RightsSplit.{first_there, one_right}
+use Rattle.m2_node.proofs.RightsSplit.{first_there, one_right, unused_passes}
 use Rattle.m2_node.proofs.sharing.rights_of.Goals as goal
 
 pub index_mut-requires : goal.index_mut-requires
@@ -16,8 +16,8 @@ index_mut-requires c =
     let long = side_length AreFirstOf c.args.shares.now c.args.passes.now.items c.requires.1.first in
     omega (arith, c.nodes-test.true, same, long, l.passes.ok.0)
 
-pub split_right-right-requires-clause-throttle : goal.split_right-right-requires-clause-throttle
-split_right-right-requires-clause-throttle c =
+pub split_right-right-requires-clause-throttles : goal.split_right-right-requires-clause-throttles
+split_right-right-requires-clause-throttles c =
     let l = c.nodes in
     let shares = c.args.shares.now in
     let passes = c.args.passes.now.items in
@@ -28,7 +28,7 @@ split_right-right-requires-clause-throttle c =
     let read : p ≡ get_or passes l.k p = c.index_mut.ensures.value ∙ ap (λ (ps : List FirstPassesNow). get_or ps l.k p) l.invariant.same in
     let here : slice_get shares l.k ≡ Some s = slice_get-get_or shares l.k s c.nodes-test.true ∙ ap Some (sym c.index-shares-k.is) in
     let there : slice_get passes l.k ≡ Some p = slice_get-get_or passes l.k p within ∙ ap Some (sym read) in
-    ap (λ (t : SeenTakePass). t.place) (first_there c.requires.0 shares passes l.k s p c.requires.1 here there).throttle ∙ ap (λ (t : SeenThrottle). t.place) (sym c.shared.ensures.throttle)
+    ap pass_places (first_there c.requires.0 shares passes l.k s p c.requires.1 here there).throttles ∙ unused_passes s.throttles ∙ ap places (sym c.shared.ensures.throttles)
 
 pub nodes-preserved : goal.nodes-preserved
 nodes-preserved c =
@@ -42,5 +42,5 @@ nodes-preserved c =
       same = ap (slice_set l.passes.items l.k) (c.split_right-right.ensures.same ∙ c.index_mut.ensures.value) ∙ set-get_or l.passes.items l.k p ∙ l.invariant.same;
       rights = subst (AreRights (take (l.k + 1) shares)) (sym c.in_ok-push.ensures.items)
           (subst (λ (n : ℕ). AreRights (take n shares) (l.rights.items ++ c.split_right-right.result ∷ [])) next
-          (one_right shares l.rights.items l.k s c.split_right-right.result here (c.split_right-right.ensures.throttle ∙ ap (λ (t : SeenThrottle). t.place) c.shared.ensures.throttle) l.invariant.rights));
+          (one_right shares l.rights.items l.k s c.split_right-right.result here (ap pass_places c.split_right-right.ensures.throttles ∙ unused_passes c.shared.result.now.throttles ∙ ap places c.shared.ensures.throttles) l.invariant.rights));
     }

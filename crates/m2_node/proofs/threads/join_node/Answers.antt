@@ -9,8 +9,8 @@ use Rattle.m2_node.proofs.threads.join_node.Goals as goal
 
 pub new-requires-clause-dispatched : goal.new-requires-clause-dispatched
 new-requires-clause-dispatched g c =
-    subst (λ (s : ShareNow). IsDispatched s.throttle.place c.in-Ok.centers.items c.args.dispatcher) (sym c.shares.view_is)
-    (subst (λ (cs : List (CenterNow (List Logged))). IsDispatched c.args.shares.now.throttle.place cs c.args.dispatcher) (sym c.in-Ok.ensures.centers) c.requires.dispatched)
+    subst (λ (s : ShareNow). IsDispatched s.throttles c.in-Ok.centers.items c.args.dispatcher) (sym c.shares.view_is)
+    (subst (λ (cs : List (CenterNow (List Logged))). IsDispatched c.args.shares.now.throttles cs c.args.dispatcher) (sym c.in-Ok.ensures.centers) c.requires.dispatched)
 
 pub returns-in-Ok-clause-node : goal.returns-in-Ok-clause-node
 returns-in-Ok-clause-node g c =

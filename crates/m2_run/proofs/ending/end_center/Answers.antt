@@ -1,6 +1,7 @@
 -- What is left of it, its halves, and the parts of its port.
 use Rattle.std.specs.Prelude.{slice_get}
 use Rattle.std.proofs.Common.{◌∙◌, refl, subst, sym}
+use Rattle.m2_dispatch.specs.m2_shared.Gates.{places}
 use Rattle.m2_node.specs.m2_script.m2_center.Finishing.{IsGranted}
 use Rattle.m2_run.proofs.Apart.{center_ended}
 use Rattle.m2_run.proofs.ending.end_center.Goals as goal
@@ -12,4 +13,8 @@ returns-clause-ends g c =
 
 pub finish-requires-clause-letters : goal.finish-requires-clause-letters
 finish-requires-clause-letters g c =
-    (subst (IsGranted c.args.shared.now.throttle.place) (sym c.port.view_is) (subst (λ p. IsGranted p c.finished.result) c.requires.throttle_place c.finished.ensures.granted)).queued
+    (subst (IsGranted (places c.args.shared.now.throttles)) (sym c.port.view_is) (subst (λ p. IsGranted p c.finished.result) c.requires.throttles_places c.finished.ensures.granted)).queued
+
+pub clear-requires-clause-all : goal.clear-requires-clause-all
+clear-requires-clause-all g c =
+    (subst (IsGranted (places c.args.shared.now.throttles)) (sym c.port.view_is) (subst (λ p. IsGranted p c.finished.result) c.requires.throttles_places c.finished.ensures.granted)).out

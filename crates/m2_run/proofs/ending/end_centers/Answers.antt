@@ -12,7 +12,7 @@ use Rattle.m2_bytes.proofs.m2_lemmas.Lists.{all_reverse}
 
 pub centers-init : goal.centers-init
 centers-init g c =
-    let served = IsServedBy c.args.shared.now.numbers c.args.shared.now.throttle in
+    let served = IsServedBy c.args.shared.now.numbers c.args.shared.now.throttles in
     let i = c.ended.inside in
     let now : OpenedNow = record { centers = c.reserve.new.self.items; left = i.left; puts = i.rights.puts.items; gets = i.rights.gets.items } in
     let same : now ≡ c.args.ended.now =
@@ -28,7 +28,7 @@ centers-init g c =
 
 pub end_center-requires : goal.end_center-requires
 end_center-requires g c =
-    let served = IsServedBy c.args.shared.now.numbers c.args.shared.now.throttle in
+    let served = IsServedBy c.args.shared.now.numbers c.args.shared.now.throttles in
     (before_last served c.pop.new.self.items c.in-Some.center (subst (AllByRecursion served) c.in-Some.ensures.items c.centers.invariant.served)).1
 
 pub push_reserved-requires : goal.push_reserved-requires
@@ -39,7 +39,7 @@ pub centers-preserved : goal.centers-preserved
 centers-preserved g c =
     let l = c.centers in
     let i = l.ended-inside in
-    let served = IsServedBy c.args.shared.now.numbers c.args.shared.now.throttle in
+    let served = IsServedBy c.args.shared.now.numbers c.args.shared.now.throttles in
     let last = c.in-Some.ensures.items in
     let old : OpenedNow = record { centers = i.centers.items; left = i.left; puts = i.rights.puts.items; gets = i.rights.gets.items } in
     let rights = c.end_center.new.rights in
@@ -53,7 +53,7 @@ centers-preserved g c =
 
 pub clear_centers-requires-in-Err : goal.clear_centers-requires-in-Err
 clear_centers-requires-in-Err g c =
-    let served = IsServedBy c.args.shared.now.numbers c.args.shared.now.throttle in
+    let served = IsServedBy c.args.shared.now.numbers c.args.shared.now.throttles in
     (before_last served c.pop.new.self.items c.in-Some.center (subst (AllByRecursion served) c.in-Some.ensures.items c.centers.invariant.served)).0
 
 pub returns : goal.returns

@@ -12,7 +12,7 @@ invariant-centers g l =
     record {
       ended : AreEndedOf l.cuts (slice_get g.B.Inboxes.inboxes) l.number l.fn.centers.items l.centers.items l.fn.ended
           (record { centers = now.centers.items; left = now.left; puts = now.rights.puts.items; gets = now.rights.gets.items });
-      served : AllByRecursion (IsServedBy l.shared.numbers l.shared.throttle) l.centers.items;
+      served : AllByRecursion (IsServedBy l.shared.numbers l.shared.throttles) l.centers.items;
       room : length l.centers.items ≤ vec_capacity now.centers - vec_len now.centers;
     }
 

@@ -38,5 +38,5 @@ returns g c =
     (subst (λ (e : EndedCenterNow). Gives cuts (e ∷ []) old new) c.center.view_is
     (center_gives cuts d old new
     (subst (λ made. Opens cuts made (flat_map ends_of_record center.records.items) (map seen into.ends.items) (map seen c.give_records.new.into.items)) c.as_slice.ensures
-    c.in_ok-give_records.ensures.given)
+    c.in_ok-give_records.ensures)
     c.in_ok-add_port.ensures last))) c.add_log.ensures

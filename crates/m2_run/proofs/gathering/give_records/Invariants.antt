@@ -1,8 +1,9 @@
 -- Whatever puts the ends of the records that are left last, behind those so far, puts those of all records last, where memory lasted so far;
--- and what those records hold was granted by this throttle.
-use Rattle.std.proofs.Common.{◌≡◌, List, length, map, reverse}
+-- and what those records hold was granted by these throttles.
+use Rattle.std.proofs.Common.{List, length, map, reverse}
 use Rattle.std.specs.Prelude.{OnOk}
 use Rattle.std.specs.List.{flat_map}
+use Rattle.m2_dispatch.specs.m2_shared.Gates.{ArePassesOf, places}
 use Rattle.m2_node.specs.m2_script.m2_center.Finishing.{AllOwn}
 use Rattle.m2_fabric.specs.End.{SeenEnd}
 use Rattle.m2_run.specs.Gathering.{Opens}
@@ -13,8 +14,8 @@ abbrev pub invariant-records : goal.invariant-records
 invariant-records g l =
     let seen = g.E.End.seen in
     record {
-      place : l.pass.place ≡ l.fn.pass.place;
-      owned : AllOwn l.throttle.place l.records.items;
+      passes : ArePassesOf l.throttles l.passes;
+      owned : AllOwn (places l.throttles) l.records.items;
       given : OnOk l.given ((all : List SeenEnd) → Opens l.cuts l.made (flat_map ends_of_record (reverse l.records.items)) (map seen l.into.items) all →
           Opens l.cuts l.made (flat_map ends_of_record l.fn.records.items) (map seen l.fn.into.items) all);
     }

@@ -37,6 +37,6 @@ returns c =
     let port = of_some (slice_get nodes k) (λ y. c.in_ok-port.port ≡ record { inner = fresh_port y.at; cuts = cuts_of nodes lines k }) x there c.in_ok-port.ensures in
     let over : map roomless rs ≡ records_of nodes links k (k + 1) = c.in_ok-records.ensures ∙ ap (records_of nodes links k) c.requires.word in
     of_four c.node_with.result _ _ _ _ _
-    (λ n center numbers throttle whole. if_some (slice_get nodes k) (λ y. IsNewNode nodes links lines k y n)
-    (λ y e. subst (λ (z : Node). IsNewNode nodes links lines k z n) (same_Some x y (sym there ∙ e)) (record { records = rs; over = over; center = center ∙ ap (λ (p : Cutting). new_center x.entity (shown p) rs [] [] none_granted none_drawn) port; numbers = numbers; throttle = throttle; whole = whole })))
-    c.node_with.ensures.center c.node_with.ensures.numbers c.node_with.ensures.throttle c.node_with.ensures.whole
+    (λ n center numbers throttles whole. if_some (slice_get nodes k) (λ y. IsNewNode nodes links lines k y n)
+    (λ y e. subst (λ (z : Node). IsNewNode nodes links lines k z n) (same_Some x y (sym there ∙ e)) (record { records = rs; over = over; center = center ∙ ap (λ (p : Cutting). new_center x.entity (shown p) rs [] [] none_granted none_drawn) port; numbers = numbers; throttles = throttles; whole = whole })))
+    c.node_with.ensures.center c.node_with.ensures.numbers c.node_with.ensures.throttles c.node_with.ensures.whole

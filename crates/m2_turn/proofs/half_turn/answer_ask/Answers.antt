@@ -1,3 +1,4 @@
+use Rattle.m2_shared.specs.Gates.{places}
 use Rattle.std.proofs.Common.{ap, arith, refl, subst, sym, ◌++◌, ◌∷◌, [], ◌∙◌}
 use Rattle.std.specs.Prelude.{slice_index_or, slice_set}
 use Rattle.std.proofs.lemmas.Option.{slice_get-get_or}
@@ -57,13 +58,13 @@ returns-clause-answers g c =
 pub returns-clause-consistent : goal.returns-clause-consistent
 returns-clause-consistent g c =
     let home = home_found c.args.asker c.peer-peer.result c.args.roster.now c.args.records.now c.in-Some.place c.index-records-place.result c.home_of.result c.requires.roster c.home_of.ensures c.in-Some.is c.index-records-place.is in
-    let same_place = ap (λ t. t.place) c.answer_half.ensures.same.throttle in
+    let same_place = ap places c.answer_half.ensures.same.throttles in
     λ o all. subst (λ x. AreConsistent (supply_of c.answer_half.new.work) o.entity (with_moved x o (slice_set c.args.records.now c.in-Some.place c.answer_half.new.side))) (sym c.moved_by.ensures)
     (answered_consistent c.answer_half.result (supply_of c.args.work.now) (supply_of c.answer_half.new.work) o.entity c.in-Some.place c.peer-peer.result c.args.a
     (slice_index_or c.args.records.now c.in-Some.place c.index-records-place.result) c.answer_half.new.side o c.args.records.now (all_fit c.args.records.now c.are_records.ensures) home.1
     (record {
       stays = c.answer_half.ensures.stays;
-      place = same_place;
+      places = same_place;
       owned = subst (λ p. Owns p c.answer_half.new.side) (sym same_place) c.answer_half.ensures.owned;
       top = c.answer_half.ensures.top;
       reached = c.answer_half.ensures.reached;

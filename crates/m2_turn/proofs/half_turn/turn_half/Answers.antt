@@ -14,10 +14,10 @@ asks-init g c = record {
   consistent = (λ o all. all);
   peers = refl;
   number_place = refl;
-  take_place = refl;
-  same = record { numbers = refl; throttle = refl };
+  takes = c.requires.takes;
+  same = record { numbers = refl; throttles = refl };
   number_pass = refl;
-  take_pass = refl;
+  passes = refl;
 }
 
 pub turn_once-requires-clause-consistent : goal.turn_once-requires-clause-consistent
@@ -36,10 +36,10 @@ asks-preserved g c = record {
   consistent = (λ o all. c.in-GoesOn.ensures.consistent o (c.asks.invariant.consistent o all));
   peers = c.turn_once.ensures.peers ∙ c.asks.invariant.peers;
   number_place = c.turn_once.ensures.number_place ∙ c.asks.invariant.number_place;
-  take_place = c.turn_once.ensures.take_place ∙ c.asks.invariant.take_place;
-  same = record { numbers = c.turn_once.ensures.same.numbers ∙ c.asks.invariant.same.numbers; throttle = c.turn_once.ensures.same.throttle ∙ c.asks.invariant.same.throttle };
+  takes = c.turn_once.ensures.takes;
+  same = record { numbers = c.turn_once.ensures.same.numbers ∙ c.asks.invariant.same.numbers; throttles = c.turn_once.ensures.same.throttles ∙ c.asks.invariant.same.throttles };
   number_pass = c.turn_once.ensures.number_pass ∙ c.asks.invariant.number_pass;
-  take_pass = c.turn_once.ensures.take_pass ∙ c.asks.invariant.take_pass;
+  passes = c.turn_once.ensures.passes ∙ c.asks.invariant.passes;
 }
 
 pub returns-clause-turns : goal.returns-clause-turns

@@ -1,3 +1,4 @@
+use Rattle.m2_shared.specs.Gates.{ArePassesOf}
 use Rattle.std.proofs.Common.{◌≡◌, List, length, map}
 use Rattle.m2_record.specs.Stepping.{IsSameWork}
 use Rattle.m2_turn.specs.HalfTurn.{Others, HalfTurning, Replies, homes, with_half}
@@ -13,8 +14,8 @@ invariant-asks g l = record {
   consistent : (c : Others) → AreConsistent (supply_of l.fn.work) c.entity (with_half l.fn.p c l.fn.records) → AreConsistent (supply_of l.work) c.entity (with_half l.pending c l.records);
   peers : map peer_of l.records ≡ map peer_of l.fn.records;
   number_place : l.work.number_pass.now.place ≡ l.fn.work.number_pass.now.place;
-  take_place : l.work.take_pass.now.place ≡ l.fn.work.take_pass.now.place;
+  takes : ArePassesOf l.work.throttles.now l.work.passes.now;
   same : IsSameWork l.fn.work l.work;
   number_pass : l.work.number_pass.ghost_name ≡ l.fn.work.number_pass.ghost_name;
-  take_pass : l.work.take_pass.ghost_name ≡ l.fn.work.take_pass.ghost_name;
+  passes : l.work.passes.ghost_name ≡ l.fn.work.passes.ghost_name;
 }

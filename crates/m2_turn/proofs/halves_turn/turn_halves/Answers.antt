@@ -19,10 +19,10 @@ turns-init g c = record {
   consistent = (λ made entity all. all);
   peers = refl;
   number_place = refl;
-  take_place = refl;
-  same = record { numbers = refl; throttle = refl };
+  takes = c.requires.takes;
+  same = record { numbers = refl; throttles = refl };
   number_pass = refl;
-  take_pass = refl;
+  passes = refl;
 }
 
 pub turn_oldest-requires-clause-consistent : goal.turn_oldest-requires-clause-consistent
@@ -99,10 +99,10 @@ turns-preserved g c =
       consistent = (λ made entity all. c.turn_oldest.ensures.consistent made entity (c.turns.invariant.consistent made entity all));
       peers = c.turn_oldest.ensures.peers ∙ c.turns.invariant.peers;
       number_place = c.turn_oldest.ensures.number_place ∙ c.turns.invariant.number_place;
-      take_place = c.turn_oldest.ensures.take_place ∙ c.turns.invariant.take_place;
-      same = record { numbers = c.turn_oldest.ensures.same.numbers ∙ c.turns.invariant.same.numbers; throttle = c.turn_oldest.ensures.same.throttle ∙ c.turns.invariant.same.throttle };
+      takes = c.turn_oldest.ensures.takes;
+      same = record { numbers = c.turn_oldest.ensures.same.numbers ∙ c.turns.invariant.same.numbers; throttles = c.turn_oldest.ensures.same.throttles ∙ c.turns.invariant.same.throttles };
       number_pass = c.turn_oldest.ensures.number_pass ∙ c.turns.invariant.number_pass;
-      take_pass = c.turn_oldest.ensures.take_pass ∙ c.turns.invariant.take_pass;
+      passes = c.turn_oldest.ensures.passes ∙ c.turns.invariant.passes;
     }
 
 pub returns-clause-turns : goal.returns-clause-turns

@@ -1,3 +1,4 @@
+use Rattle.m2_shared.specs.Gates.{ArePassesOf}
 use Rattle.std.proofs.Common.{◌≡◌, ℕ, ◌+◌, ◌-◌, ◌≤◌, List, length, map}
 use Rattle.std.specs.Prelude.{vec_capacity, vec_len}
 use Rattle.m2_fabric.specs.declared.socket.SocketId.{SocketId}
@@ -23,8 +24,8 @@ invariant-turns g l = record {
       AreConsistent (supply_of l.work) entity (sessions_of made (callers l.halves l.loose.items (homes l.records l.work)));
   peers : map peer_of l.records ≡ map peer_of l.fn.records;
   number_place : l.work.number_pass.now.place ≡ l.fn.work.number_pass.now.place;
-  take_place : l.work.take_pass.now.place ≡ l.fn.work.take_pass.now.place;
+  takes : ArePassesOf l.work.throttles.now l.work.passes.now;
   same : IsSameWork l.fn.work l.work;
   number_pass : l.work.number_pass.ghost_name ≡ l.fn.work.number_pass.ghost_name;
-  take_pass : l.work.take_pass.ghost_name ≡ l.fn.work.take_pass.ghost_name;
+  passes : l.work.passes.ghost_name ≡ l.fn.work.passes.ghost_name;
 }

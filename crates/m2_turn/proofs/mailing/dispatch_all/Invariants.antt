@@ -1,3 +1,4 @@
+use Rattle.m2_shared.specs.Gates.{ArePassesOf, places}
 use Rattle.std.proofs.Common.{◌≡◌, length, not}
 use Rattle.m2_dispatch.specs.Letters.{AreOwned}
 use Rattle.m2_turn.specs.Mailing.{DispatchesSome, is_none, queueing}
@@ -5,10 +6,10 @@ use Rattle.m2_turn.proofs.mailing.dispatch_all.Given as goal
 
 abbrev pub invariant-turning : goal.invariant-turning
 invariant-turning g l = record {
-  dispatches : DispatchesSome g.D.Dispatcher.heard l.throttle.place (queueing l.fn.queued l.fn.pass) (queueing l.queued l.pass);
+  dispatches : DispatchesSome g.D.Dispatcher.heard (places l.throttles) (queueing l.fn.queued l.fn.passes) (queueing l.queued l.passes);
   any : l.any ≡ not (is_none dispatches.dispatched);
-  letters : AreOwned l.throttle.place l.queued.waiting;
-  place : l.pass.place ≡ l.fn.pass.place;
+  letters : AreOwned (places l.throttles) l.queued.waiting;
+  passes : ArePassesOf l.throttles l.passes;
 }
 
 abbrev pub decreases-turning : goal.decreases-turning

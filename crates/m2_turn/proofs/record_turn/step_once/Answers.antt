@@ -34,10 +34,10 @@ pub returns-in-Dry-clause-handed : goal.returns-in-Dry-clause-handed
 returns-in-Dry-clause-handed g c = says_same c.args.handed.now _ _ (steps stepped.Dry _ c.args.side.now c.step-stepped.new.self refl c.in-Dry.ensures.steps)
 
 pub returns-in-Full-clause-handed : goal.returns-in-Full-clause-handed
-returns-in-Full-clause-handed g c = says_same c.args.handed.now _ _ (steps (stepped.Full c.in-Full.held) _ c.args.side.now c.step-stepped.new.self refl c.in-Full.ensures.steps)
+returns-in-Full-clause-handed g c = says_same c.args.handed.now _ _ (steps (stepped.Full c.in-Full.stage c.in-Full.held) _ c.args.side.now c.step-stepped.new.self refl c.in-Full.ensures.steps)
 
 pub returns-in-Again-clause-handed : goal.returns-in-Again-clause-handed
-returns-in-Again-clause-handed g c = says_same c.args.handed.now _ _ (steps (stepped.Again c.in-Again.seen c.in-Again.now) _ c.args.side.now c.step-stepped.new.self refl c.in-Again.ensures.steps)
+returns-in-Again-clause-handed g c = says_same c.args.handed.now _ _ (steps (stepped.Again c.in-Again.stage c.in-Again.seen c.in-Again.now) _ c.args.side.now c.step-stepped.new.self refl c.in-Again.ensures.steps)
 
 pub returns-in-Spent-clause-handed : goal.returns-in-Spent-clause-handed
 returns-in-Spent-clause-handed g c = says_same c.args.handed.now _ _ (steps stepped.Spent _ c.args.side.now c.step-stepped.new.self refl c.in-Spent.ensures.steps)

@@ -1,3 +1,4 @@
+use Rattle.m2_shared.specs.Gates.{places}
 use Rattle.std.proofs.Common.{◌++◌, ◌∷◌, [], Some, ap, arith, refl, subst, ◌∙◌}
 use Rattle.m2_record.specs.Calls.{Owns}
 use Rattle.m2_turn.specs.Outbox.{OwnsAll}
@@ -19,10 +20,10 @@ steps-init g c = record {
   owned = c.requires.owned;
   out = c.requires.out;
   number_place = refl;
-  take_place = refl;
-  same = record { numbers = refl; throttle = refl };
+  takes = c.requires.takes;
+  same = record { numbers = refl; throttles = refl };
   number_pass = refl;
-  take_pass = refl;
+  passes = refl;
 }
 
 pub returns-in-Some-clause-turns : goal.returns-in-Some-clause-turns
@@ -39,7 +40,7 @@ pub returns-in-Some-clause-reached : goal.returns-in-Some-clause-reached
 returns-in-Some-clause-reached g c n fits h = c.step_once.ensures.reached n fits (c.steps.invariant.reached n fits h)
 
 pub returns-in-Some-clause-owned : goal.returns-in-Some-clause-owned
-returns-in-Some-clause-owned g c = subst (λ p. Owns p c.step_once.new.side) (ap (λ t. t.place) c.steps.invariant.same.throttle) c.step_once.ensures.owned
+returns-in-Some-clause-owned g c = subst (λ t. Owns (places t) c.step_once.new.side) c.steps.invariant.same.throttles c.step_once.ensures.owned
 
 pub steps-preserved : goal.steps-preserved
 steps-preserved g c = record {
@@ -52,11 +53,11 @@ steps-preserved g c = record {
   handed = says_then _ _ _ _ _ _ c.steps.invariant.handed c.step_once.ensures.handed;
   top = c.step_once.ensures.top;
   reached = (λ n fits h. c.step_once.ensures.reached n fits (c.steps.invariant.reached n fits h));
-  owned = subst (λ p. Owns p c.step_once.new.side) (ap (λ t. t.place) c.steps.invariant.same.throttle) c.step_once.ensures.owned;
-  out = subst (λ p. OwnsAll p c.step_once.new.out) (ap (λ t. t.place) c.steps.invariant.same.throttle) c.step_once.ensures.out;
+  owned = subst (λ t. Owns (places t) c.step_once.new.side) c.steps.invariant.same.throttles c.step_once.ensures.owned;
+  out = subst (λ t. OwnsAll (places t) c.step_once.new.out) c.steps.invariant.same.throttles c.step_once.ensures.out;
   number_place = c.step_once.ensures.number_place ∙ c.steps.invariant.number_place;
-  take_place = c.step_once.ensures.take_place ∙ c.steps.invariant.take_place;
-  same = record { numbers = c.step_once.ensures.same.numbers ∙ c.steps.invariant.same.numbers; throttle = c.step_once.ensures.same.throttle ∙ c.steps.invariant.same.throttle };
+  takes = c.step_once.ensures.takes;
+  same = record { numbers = c.step_once.ensures.same.numbers ∙ c.steps.invariant.same.numbers; throttles = c.step_once.ensures.same.throttles ∙ c.steps.invariant.same.throttles };
   number_pass = c.step_once.ensures.number_pass ∙ c.steps.invariant.number_pass;
-  take_pass = c.step_once.ensures.take_pass ∙ c.steps.invariant.take_pass;
+  passes = c.step_once.ensures.passes ∙ c.steps.invariant.passes;
 }

@@ -1,3 +1,4 @@
+use Rattle.m2_shared.specs.Gates.{ArePassesOf, places}
 use Rattle.std.proofs.Common.{◌≡◌, ◌≤◌, List, length}
 use Rattle.m2_record.specs.Calls.{Owns}
 use Rattle.m2_record.specs.Stepping.{IsSameWork, KeepsReached}
@@ -16,11 +17,11 @@ invariant-steps g l = record {
   handed : SaysMore l.fn.handed l.handed l.fn.side.handed l.side.handed;
   top : l.side.core.top ≤ l.work.number_pass.now.least;
   reached : KeepsReached l.fn.work.number_pass.now l.work.number_pass.now;
-  owned : Owns l.fn.work.throttle.now.place l.side;
-  out : OwnsAll l.fn.work.throttle.now.place l.out;
+  owned : Owns (places l.fn.work.throttles.now) l.side;
+  out : OwnsAll (places l.fn.work.throttles.now) l.out;
   number_place : l.work.number_pass.now.place ≡ l.fn.work.number_pass.now.place;
-  take_place : l.work.take_pass.now.place ≡ l.fn.work.take_pass.now.place;
+  takes : ArePassesOf l.work.throttles.now l.work.passes.now;
   same : IsSameWork l.fn.work l.work;
   number_pass : l.work.number_pass.ghost_name ≡ l.fn.work.number_pass.ghost_name;
-  take_pass : l.work.take_pass.ghost_name ≡ l.fn.work.take_pass.ghost_name;
+  passes : l.work.passes.ghost_name ≡ l.fn.work.passes.ghost_name;
 }

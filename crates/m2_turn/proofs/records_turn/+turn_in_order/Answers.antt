@@ -1,8 +1,8 @@
+use Rattle.m2_shared.specs.Gates.{places}
 use Rattle.std.proofs.Common.{◌≡◌, ◌<◌, ◌∷◌, length, ap, arith, subst, sym, ◌∙◌}
 use Rattle.std.specs.List.{AllByRecursion}
 use Rattle.std.proofs.lemmas.List.{nil_from_length}
 use Rattle.m2_shared.specs.Numbers.{SeenNumbers}
-use Rattle.m2_shared.specs.Throttle.{SeenThrottle}
 use Rattle.m2_turn.specs.declared.records_turn.RecordsTurn.TheVariants as turn
 use Rattle.m2_turn.specs.Beside.{AllKeepCallers, TopFits}
 use Rattle.m2_turn.specs.Handing.{SaysMore, handed_in}
@@ -25,13 +25,11 @@ turn_in_order-requires g t c κs within =
     all_supplied_on c.args.work.now c.turn_one.new.work (g.P.Port.seen c.args.port.now).made (g.P.Port.seen c.turn_one.new.port).made c.in-Some.rest.now
     c.turn_one.ensures.same c.turn_one.ensures.reached c.turn_one.ensures.made fit
     (subst (AllByRecursion (IsSupplied (supply_of c.args.work.now) (g.P.Port.seen c.args.port.now).made)) split c.requires.supplied).1 in
-    let out : OwnsAll c.turn_one.new.work.throttle.now.place c.turn_one.new.out =
-    subst (λ p. OwnsAll p c.turn_one.new.out) (sym (ap (λ (v : SeenThrottle). v.place) c.turn_one.ensures.same.throttle)) c.turn_one.ensures.out in
+    let out : OwnsAll (places c.turn_one.new.work.throttles.now) c.turn_one.new.out =
+    subst (λ t. OwnsAll (places t) c.turn_one.new.out) (sym c.turn_one.ensures.same.throttles) c.turn_one.ensures.out in
     let numbers : c.turn_one.new.work.number_pass.now.place ≡ c.turn_one.new.work.numbers.now.place =
     c.turn_one.ensures.number_place ∙ c.requires.numbers ∙ sym (ap (λ (v : SeenNumbers). v.place) c.turn_one.ensures.same.numbers) in
-    let takes : c.turn_one.new.work.take_pass.now.place ≡ c.turn_one.new.work.throttle.now.place =
-    c.turn_one.ensures.take_place ∙ c.requires.takes ∙ sym (ap (λ (v : SeenThrottle). v.place) c.turn_one.ensures.same.throttle) in
-    (subst (λ n. length c.in-Some.rest.now < n) c.decreases shorter, (within.0, (within.1.0, (within.1.1, (numbers, (takes, (supplied, (fit, out))))))))
+    (subst (λ n. length c.in-Some.rest.now < n) c.decreases shorter, (within.0, (within.1.0, (within.1.1, (numbers, (c.turn_one.ensures.takes, (supplied, (fit, out))))))))
 
 pub returns-in-None-clause-turns : goal.returns-in-None-clause-turns
 returns-in-None-clause-turns g t c =
@@ -76,7 +74,7 @@ pub returns-in-Done-clause-reached : goal.returns-in-Done-clause-reached
 returns-in-Done-clause-reached g t c n fits h = c.turn_in_order.ensures.reached n fits (c.turn_one.ensures.reached n fits h)
 
 pub returns-in-Done-clause-out : goal.returns-in-Done-clause-out
-returns-in-Done-clause-out g t c = subst (λ p. OwnsAll p c.turn_in_order.new.out) (ap (λ (v : SeenThrottle). v.place) c.turn_one.ensures.same.throttle) c.turn_in_order.ensures.out
+returns-in-Done-clause-out g t c = subst (λ t. OwnsAll (places t) c.turn_in_order.new.out) c.turn_one.ensures.same.throttles c.turn_in_order.ensures.out
 
 pub returns-in-NoMemory-clause-turns : goal.returns-in-NoMemory-clause-turns
 returns-in-NoMemory-clause-turns g t c =

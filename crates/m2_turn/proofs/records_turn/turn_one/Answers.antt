@@ -1,3 +1,4 @@
+use Rattle.m2_shared.specs.Gates.{places}
 use Rattle.std.proofs.Common.{◌≤◌, Err, Ok, ap, refl, subst, sym}
 use Rattle.m2_record.specs.Calls.{Owns}
 use Rattle.m2_record.specs.Due.{due_step}
@@ -14,7 +15,7 @@ pub returns-then-not-is_free-clause-fit : goal.returns-then-not-is_free-clause-f
 returns-then-not-is_free-clause-fit g c = top-fits c.args.side.now c.is_record.ensures
 
 pub turn_record-ended-requires-clause-owned : goal.turn_record-ended-requires-clause-owned
-turn_record-ended-requires-clause-owned g c = c.connect_if_due.ensures.owned c.args.work.now.throttle.now.place c.requires.supplied.owned
+turn_record-ended-requires-clause-owned g c = c.connect_if_due.ensures.owned (places c.args.work.now.throttles.now) c.requires.supplied.owned
 
 pub returns-in-Ok-clause-turns : goal.returns-in-Ok-clause-turns
 returns-in-Ok-clause-turns g c =
@@ -31,7 +32,7 @@ returns-in-Ok-clause-turns g c =
 
 pub returns-in-Ok-clause-supplied : goal.returns-in-Ok-clause-supplied
 returns-in-Ok-clause-supplied g c = record {
-  owned = subst (λ p. Owns p c.turn_record-ended.new.side) (sym (ap (λ t. t.place) c.turn_record-ended.ensures.same.throttle)) c.turn_record-ended.ensures.owned;
+  owned = subst (λ t. Owns (places t) c.turn_record-ended.new.side) (sym c.turn_record-ended.ensures.same.throttles) c.turn_record-ended.ensures.owned;
   top = c.turn_record-ended.ensures.top;
   made = c.turn_record-ended.ensures.stays.made (g.P.Port.seen c.connect_if_due.new.port).made c.connect_if_due.ensures.made;
 }
@@ -52,7 +53,7 @@ returns-in-Err-clause-turns g c =
 
 pub returns-in-Err-clause-supplied : goal.returns-in-Err-clause-supplied
 returns-in-Err-clause-supplied g c = record {
-  owned = c.connect_if_due.ensures.owned c.args.work.now.throttle.now.place c.requires.supplied.owned;
+  owned = c.connect_if_due.ensures.owned (places c.args.work.now.throttles.now) c.requires.supplied.owned;
   top = subst (λ n. n ≤ c.args.work.now.number_pass.now.least) (sym c.connect_if_due.ensures.top) c.requires.supplied.top;
   made = c.connect_if_due.ensures.made;
 }

@@ -1,4 +1,5 @@
 -- What a center keeps where its records take their turns.
+use Rattle.m2_shared.specs.Gates.{pass_places, places}
 use Rattle.std.proofs.Common.{refl, ap, sym, subst, ◌∙◌}
 use Rattle.m2_dispatch.specs.Letters.{AreOwned}
 use Rattle.m2_turn.specs.Handing.{SaysMore, handed_in}
@@ -8,19 +9,19 @@ use Rattle.m2_turn.proofs.Told.{same_peers}
 use Rattle.m2_center.proofs.center.Center.step.Goals as goal
 
 pub step_all-requires-clause-out : goal.step_all-requires-clause-out
-step_all-requires-clause-out g c = subst (λ p. OwnsAll p c.self.inside.out) (ap (λ v. v.bytes.place) c.self.view_is ∙ c.requires.throttle) c.self.invariant.0.out
+step_all-requires-clause-out g c = subst (λ p. OwnsAll p c.self.inside.out) (ap (λ v. pass_places v.bytes) c.self.view_is ∙ c.requires.throttles) c.self.invariant.0.out
 
 pub invariant_of-self : goal.invariant_of-self
 invariant_of-self g c =
     let was = c.self.invariant in
-    let there = ap (λ v. v.bytes.place) c.self.view_is ∙ c.requires.throttle in
-    let back = sym (c.step_all.ensures.take_place ∙ there) in (
+    let there = ap (λ v. pass_places v.bytes) c.self.view_is ∙ c.requires.throttles in
+    let back = sym (c.step_all.ensures.takes ∙ ap places c.step_all.ensures.same.throttles) in (
       record {
-        consistent = consistent_at _ _ _ _ _ _ _ _ (ap (λ t. t.place) c.step_all.ensures.same.throttle ∙ back) refl
+        consistent = consistent_at _ _ _ _ _ _ _ _ (ap places c.step_all.ensures.same.throttles ∙ back) refl
             (c.step_all.ensures.consistent c.self.inside.entity c.self.inside.halves c.self.inside.loose.items
             (consistent_at _ _ _ _ _ _ _ _ there refl was.0.consistent));
         out = subst (λ p. OwnsAll p c.step_all.new.out) back c.step_all.ensures.out;
-        queued = subst (λ p. AreOwned p c.self.inside.queued.waiting) (sym c.step_all.ensures.take_place) was.0.queued;
+        queued = subst (λ p. AreOwned p c.self.inside.queued.waiting) (there ∙ back) was.0.queued;
       },
       was.1 ∙ sym (same_peers _ _ _ c.step_all.ensures.keeps),
       was.2,
@@ -33,5 +34,5 @@ returns g c = record {
   queued = ap (λ v. v.queued) c.self.view_is;
   handed = subst (λ o. SaysMore c.args.handed.now c.step_all.new.handed (handed_in o.records) (handed_in c.step_all.new.records.items)) c.self.view_is c.step_all.ensures.handed;
   numbers = c.step_all.ensures.number_place ∙ ap (λ v. v.numbers.place) c.self.view_is;
-  throttle = c.step_all.ensures.take_place ∙ ap (λ v. v.bytes.place) c.self.view_is;
+  throttles = c.step_all.ensures.takes ∙ ap places c.step_all.ensures.same.throttles ∙ sym c.requires.throttles;
 }

@@ -9,7 +9,7 @@ use Rattle.m2_center.proofs.center.Center.take_turn_on.Goals as goal
 
 pub returns-in_err-answer-clause-turns : goal.returns-in_err-answer-clause-turns
 returns-in_err-answer-clause-turns g c =
-    let m = means_at c.args.now c.args.shared.now.numbers c.args.shared.now.throttle in
+    let m = means_at c.args.now c.args.shared.now.numbers c.args.shared.now.throttles in
     let E = g.row.P-End.Denot in
     let heard = g.D.Dispatcher.heard in
     let p = err_from_is_err_and c.from_residual-in_err-answer.result c.from_residual-in_err-answer.ensures.1 in
@@ -19,7 +19,7 @@ returns-in_err-answer-clause-turns g c =
 
 pub returns-in_err-step-clause-turns : goal.returns-in_err-step-clause-turns
 returns-in_err-step-clause-turns g c =
-    let m = means_at c.args.now c.args.shared.now.numbers c.args.shared.now.throttle in
+    let m = means_at c.args.now c.args.shared.now.numbers c.args.shared.now.throttles in
     let E = g.row.P-End.Denot in
     let heard = g.D.Dispatcher.heard in
     let p = err_from_is_err_and c.from_residual-in_err-step.result c.from_residual-in_err-step.ensures.1 in
@@ -31,7 +31,7 @@ returns-in_err-step-clause-turns g c =
 
 pub returns-clause-turns : goal.returns-clause-turns
 returns-clause-turns g c =
-    let m = means_at c.args.now c.args.shared.now.numbers c.args.shared.now.throttle in
+    let m = means_at c.args.now c.args.shared.now.numbers c.args.shared.now.throttles in
     let E = g.row.P-End.Denot in
     let heard = g.D.Dispatcher.heard in
     let hands_on = HandsOnSo heard m c.args.into.now.items c.hand_on.new.into.items in
@@ -42,13 +42,13 @@ returns-clause-turns g c =
 
 pub returns-in_err-answer-clause-handed : goal.returns-in_err-answer-clause-handed
 returns-in_err-answer-clause-handed g c =
-    let m = means_at c.args.now c.args.shared.now.numbers c.args.shared.now.throttle in
+    let m = means_at c.args.now c.args.shared.now.numbers c.args.shared.now.throttles in
     says_same c.args.handed.now _ _
     (answers_none g.row.P-End.Denot m _ c.accept.new.self c.answer.new.self c.answer.ensures.answers ∙ accepts_none _ c.args.self.now c.accept.new.self c.accept.ensures.accepts)
 
 pub returns-in_err-step-clause-handed : goal.returns-in_err-step-clause-handed
 returns-in_err-step-clause-handed g c =
-    let m = means_at c.args.now c.args.shared.now.numbers c.args.shared.now.throttle in
+    let m = means_at c.args.now c.args.shared.now.numbers c.args.shared.now.throttles in
     says_then _ _ _ _ _ _
     (says_same c.args.handed.now _ _
     (answers_none g.row.P-End.Denot m _ c.accept.new.self c.answer.new.self c.answer.ensures.answers ∙ accepts_none _ c.args.self.now c.accept.new.self c.accept.ensures.accepts))
@@ -56,7 +56,7 @@ returns-in_err-step-clause-handed g c =
 
 pub returns-clause-handed : goal.returns-clause-handed
 returns-clause-handed g c =
-    let m = means_at c.args.now c.args.shared.now.numbers c.args.shared.now.throttle in
+    let m = means_at c.args.now c.args.shared.now.numbers c.args.shared.now.throttles in
     says_then _ _ _ _ _ _
     (says_then _ _ _ _ _ _
     (says_same c.args.handed.now _ _

@@ -9,7 +9,7 @@ invariant_of-self g c =
     let was = c.self.invariant in
     record {
       numbers = ap (λ (n : CenterNow g.row.D.Denot). n.numbers.place) c.plan.ensures.plans.only ∙ was.numbers;
-      throttle = c.plan.ensures.plans.bytes ∙ was.throttle;
+      throttles = c.plan.ensures.plans.bytes ∙ was.throttles;
     }
 
 pub returns : goal.returns

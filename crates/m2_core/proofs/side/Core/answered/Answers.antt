@@ -1,5 +1,4 @@
 use Rattle.std.proofs.Common.{◌≡◌, sym, ap, subst}
-use Rattle.m2_shared.specs.Throttle.{SeenTakePass}
 use Rattle.m2_core.specs.CoreNow.{CoreNow}
 use Rattle.m2_core.specs.Judging.{IsVerdict, told_of}
 use Rattle.m2_core.proofs.Judged as judged
@@ -21,6 +20,6 @@ returns-clause-judged g c = rw (← c.self.view_is)
     (judged.answers c.feed_laws.ensures.changes _ _ _ _ c.requires.refuses (subst (λ (o : CoreNow). c.told_of-told.result ≡ told_of o.facts c.args.v.now) (sym c.self.view_is) c.told_of-told.ensures) c.tell_if-aftermath.ensures.live)
 
 pub returns-clause-word : goal.returns-clause-word
-returns-clause-word g c = λ alone.
-    judged.word_stays _ _ _ _ _ c.self.invariant (subst (λ (o : CoreNow). IsVerdict c.args.v.now o) (sym c.self.view_is) c.requires.verdict) c.requires.refuses
-    (subst (λ (o : CoreNow). c.told_of-told.result ≡ told_of o.facts c.args.v.now) (sym c.self.view_is) c.told_of-told.ensures) (c.tell_if-aftermath.ensures.word alone) (λ e. ap (λ (p : SeenTakePass). p.word) (c.tell_if-aftermath.ensures.kept e))
+returns-clause-word g c =
+    judged.word_stays _ _ _ _ _ _ c.self.invariant (subst (λ (o : CoreNow). IsVerdict c.args.v.now o) (sym c.self.view_is) c.requires.verdict) c.requires.refuses
+    (subst (λ (o : CoreNow). c.told_of-told.result ≡ told_of o.facts c.args.v.now) (sym c.self.view_is) c.told_of-told.ensures) c.tell_if-aftermath.ensures.word c.tell_if-aftermath.ensures.kept

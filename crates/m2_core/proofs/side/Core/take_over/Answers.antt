@@ -34,7 +34,7 @@ returns-clause-judged g c = rw (← c.self.view_is)
     (subst (λ (n : ℕ). c.take-aftermath.new.self ≡ with_taken c.told_of-told.result c.taken_over-feed.result n c.self.inside.live) c.resumed_by_ask.ensures c.take-aftermath.ensures.live))
 
 pub returns-clause-word : goal.returns-clause-word
-returns-clause-word g c = rw (← c.self.view_is) (λ alone. c.take-aftermath.ensures.word alone
+returns-clause-word g c = rw (← c.self.view_is) (c.take-aftermath.ensures.word
     (judged.closes_all _ _ _ (subst (λ (o : CoreNow). IsVerdict c.args.v.now o) (sym c.self.view_is) c.requires.verdict) c.requires.takes (subst (λ (o : CoreNow). c.told_of-told.result ≡ told_of o.facts c.args.v.now) (sym c.self.view_is) c.told_of-told.ensures)))
 
 pub returns-clause-closed : goal.returns-clause-closed

@@ -3,7 +3,8 @@ use Rattle.std.proofs.Common.{◌≡◌, ◌+◌, ◌<◌, ◌∷◌, [], append
 use Rattle.std.specs.Prelude.{true, false, slice_get, slice_set}
 use Rattle.std.proofs.lemmas.Option.{slice_get-get_or}
 use Rattle.m2_dispatch.specs.Parcel.{IsOwned}
-use Rattle.m2_dispatch.specs.m2_shared.Place.{Place}
+use Rattle.m2_dispatch.specs.m2_shared.Gates.{places}
+use Rattle.m2_dispatch.specs.m2_shared.declared.throttles.Throttles.{Throttles}
 use Rattle.m2_mailbox.specs.Passes.{taken_of}
 use Rattle.m2_node.specs.Dispatching.{IsServing, LooksAt, ServingNow}
 use Rattle.m2_node.proofs.Dispatched.{nothing_dispatched}
@@ -33,7 +34,7 @@ dispatch-requires g c =
     let within : c.args.j < length s.gets = subst (λ (t : ServingNow). c.args.j < length t.gets) (sym c.self.view_is) c.requires.place in
     let at_mail : slice_get mails (s.first + c.args.j) ≡ Some m = slice_get-get_or mails (s.first + c.args.j) m (omega (arith, c.if-self-mails.false, c.if-j-mails.false)) ∙ ap Some (sym c.index-mails-self.is) in
     let at_get : slice_get s.gets c.args.j ≡ Some g_ = slice_get-get_or s.gets c.args.j g_ within ∙ ap Some (sym c.index_mut.ensures.value) in
-    subst (λ (p : Place). IsOwned p c.in-Some.parcel) (serving.ours c.args.j m g_ at_mail at_get).1 c.in-Some.ensures.belongs
+    subst (λ (t : Throttles). IsOwned (places t) c.in-Some.parcel) (serving.ours c.args.j m g_ at_mail at_get).1 c.in-Some.ensures.belongs
 
 pub returns-in-None-clause-served : goal.returns-in-None-clause-served
 returns-in-None-clause-served g c =

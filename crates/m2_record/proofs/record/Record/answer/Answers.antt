@@ -1,3 +1,4 @@
+use Rattle.m2_shared.specs.Gates.{places}
 use Rattle.std.proofs.Common.{◌++◌, ◌∙◌, ap, option_map, subst, sym}
 use Rattle.m2_bytes.specs.Items.{Holding}
 use Rattle.m2_core.specs.CoreNow.{CoreNow}
@@ -29,5 +30,5 @@ invariant_of-self g c =
     })
 
 pub returns-clause-owned : goal.returns-clause-owned
-returns-clause-owned g c = owned-answered c.args.throttle.now.place c.args.v.now _ _ c.answered-aftermath.result.discarded c.answered-aftermath.result.remote_reset
-    (subst (λ (v : RecordNow). Owns c.args.throttle.now.place v) (sym c.self.view_is) c.requires.owned) c.answered-aftermath.ensures.value c.put_told.ensures.items
+returns-clause-owned g c = owned-answered (places c.args.throttles.now) c.args.v.now _ _ c.answered-aftermath.result.discarded c.answered-aftermath.result.remote_reset
+    (subst (λ (v : RecordNow). Owns (places c.args.throttles.now) v) (sym c.self.view_is) c.requires.owned) c.answered-aftermath.ensures.value c.put_told.ensures.items

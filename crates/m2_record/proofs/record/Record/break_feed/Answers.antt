@@ -1,3 +1,4 @@
+use Rattle.m2_shared.specs.Gates.{places}
 use Rattle.std.proofs.Common.{◌∙◌, ap, option_map, refl, subst, sym}
 use Rattle.m2_core.specs.CoreNow.{CoreNow}
 use Rattle.m2_record.specs.Calls.{FeedIsBroken, Owns}
@@ -19,5 +20,5 @@ invariant_of-self g c = broken-on c.args.now _ _ c.fault-aftermath.new.self _ _ 
     })
 
 pub returns-clause-owned : goal.returns-clause-owned
-returns-clause-owned g c = owned-broken c.args.throttle.now.place _ _ c.fault-aftermath.result.discarded c.fault-aftermath.result.remote_reset
-    (subst (λ (v : RecordNow). Owns c.args.throttle.now.place v) (sym c.self.view_is) c.requires.owned) c.fault-aftermath.ensures.value c.put_told.ensures.items
+returns-clause-owned g c = owned-broken (places c.args.throttles.now) _ _ c.fault-aftermath.result.discarded c.fault-aftermath.result.remote_reset
+    (subst (λ (v : RecordNow). Owns (places c.args.throttles.now) v) (sym c.self.view_is) c.requires.owned) c.fault-aftermath.ensures.value c.put_told.ensures.items

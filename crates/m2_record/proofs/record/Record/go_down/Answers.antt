@@ -1,3 +1,4 @@
+use Rattle.m2_shared.specs.Gates.{places}
 use Rattle.std.proofs.Common.{◌++◌, ◌∙◌, ap, option_map, subst, sym}
 use Rattle.m2_bytes.specs.Items.{Holding}
 use Rattle.m2_journal.specs.declared.entry.Entry.{Entry}
@@ -17,5 +18,5 @@ invariant_of-self g c =
     c.steps_taken-self-inside.ensures c.put_closed.ensures.spent c.put_told.ensures.items c.put_closed.ensures.ends
 
 pub returns-clause-owned : goal.returns-clause-owned
-returns-clause-owned g c = owned-down c.args.throttle.now.place _ _ c.down-aftermath.result.discarded c.down-aftermath.result.remote_reset
-    (subst (λ (v : RecordNow). Owns c.args.throttle.now.place v) (sym c.self.view_is) c.requires.owned) c.down-aftermath.ensures.value c.put_told.ensures.items
+returns-clause-owned g c = owned-down (places c.args.throttles.now) _ _ c.down-aftermath.result.discarded c.down-aftermath.result.remote_reset
+    (subst (λ (v : RecordNow). Owns (places c.args.throttles.now) v) (sym c.self.view_is) c.requires.owned) c.down-aftermath.ensures.value c.put_told.ensures.items

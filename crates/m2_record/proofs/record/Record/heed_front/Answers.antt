@@ -1,7 +1,7 @@
+use Rattle.m2_shared.specs.Gates.{held, places}
 use Rattle.std.proofs.Common.{◌∙◌, ap, arith, map, option_map, refl}
-use Rattle.m2_core.specs.LiveNow.{held}
 use Rattle.m2_record.specs.RecordNow.{RecordNow}
-use Rattle.m2_record.proofs.Heeding.{closed-fits, done-so, heeds-left, heeds-noted, no-reset, noted-none, owned-closed, owned-left, owned-so, record-closed, record-noted, reset-left, room-so, signed-so, tested, word-so}
+use Rattle.m2_record.proofs.Heeding.{closed-fits, done-so, heeds-left, heeds-noted, no-reset, noted-none, owned-closed, owned-left, owned-so, record-closed, record-noted, reset-left, room-so, signed-so, tested, words-so}
 use Rattle.m2_record.proofs.Fronts.{top-so}
 use Rattle.m2_record.proofs.record.Record.heed_front.Goals as goal
 
@@ -9,7 +9,7 @@ pub next-next-requires-clause-signed : goal.next-next-requires-clause-signed
 next-next-requires-clause-signed g c = signed-so _ _ c.self.view_is c.requires.signed
 
 pub next-next-requires-clause-owned : goal.next-next-requires-clause-owned
-next-next-requires-clause-owned g c = owned-so c.args.throttle.now.place _ _ c.self.view_is c.requires.owned
+next-next-requires-clause-owned g c = owned-so (places c.args.throttles.now) _ _ c.self.view_is c.requires.owned
 
 pub note_next-framed-requires-clause-some : goal.note_next-framed-requires-clause-some
 note_next-framed-requires-clause-some g c = done-so _ _ _ c.next-next.new.self c.next-next.result.next c.self.view_is c.requires.frame c.requires.signed c.next-next.ensures.next
@@ -41,12 +41,12 @@ returns-then-not-is_faulted-clause-reset g c =
 
 pub returns-then-not-is_faulted-clause-owned : goal.returns-then-not-is_faulted-clause-owned
 returns-then-not-is_faulted-clause-owned g c = owned-left _ c.next-next.result.next c.note_next-framed.result _ c.next-next.new.self (record { answers = c.next-next.ensures.next; is = c.note_next-framed.ensures.answer })
-    c.args.throttle.now.place _ _ c.self.view_is c.requires.owned c.next-next.ensures.owned refl c.note_next-framed.ensures.parcels
+    (places c.args.throttles.now) _ _ c.self.view_is c.requires.owned c.next-next.ensures.owned refl c.note_next-framed.ensures.parcels
 
 pub returns-then-not-is_faulted-clause-word : goal.returns-then-not-is_faulted-clause-word
-returns-then-not-is_faulted-clause-word g c a = word-so c.next-next.result.next c.note_next-framed.result _ _ _ _ _
+returns-then-not-is_faulted-clause-word g c = words-so c.next-next.result.next c.note_next-framed.result _ _ _ _
     (done-so _ _ _ c.next-next.new.self c.next-next.result.next c.self.view_is c.requires.frame c.requires.signed c.next-next.ensures.next)
-    c.note_next-framed.ensures.answer (ap (λ (v : RecordNow). held v.core.live.granted) c.self.view_is) (c.next-next.ensures.word a)
+    c.note_next-framed.ensures.answer (ap (λ (v : RecordNow). held v.core.live.granted) c.self.view_is) c.next-next.ensures.word
 
 pub put_told-requires : goal.put_told-requires
 put_told-requires g c =
@@ -94,12 +94,12 @@ returns-clause-owned g c = owned-closed c.self.invariant _ c.next-next.result.ne
     (option_map g.E.End.seen c.next-next.result.aftermath.closed) c.next-next.result.aftermath.discarded c.next-next.result.aftermath.remote_reset _ _ _
     c.next-next.ensures.aftermath c.note_next-framed.ensures.journal c.put_closed.ensures.journal c.note_next-framed.ensures.parcels c.put_told.ensures.items c.put_closed.ensures.spent c.note_next-framed.ensures.last
     c.stepped-self-inside.ensures c.node.ensures c.session.ensures c.session-2.ensures
-    c.args.throttle.now.place _ _ c.self.view_is c.requires.owned c.next-next.ensures.owned c.next-next.ensures.owned refl
+    (places c.args.throttles.now) _ _ c.self.view_is c.requires.owned c.next-next.ensures.owned c.next-next.ensures.owned refl
 
 pub returns-clause-word : goal.returns-clause-word
-returns-clause-word g c a = word-so c.next-next.result.next c.note_next-framed.result _ _ _ _ _
+returns-clause-word g c = words-so c.next-next.result.next c.note_next-framed.result _ _ _ _
     (done-so _ _ _ c.next-next.new.self c.next-next.result.next c.self.view_is c.requires.frame c.requires.signed c.next-next.ensures.next)
-    c.note_next-framed.ensures.answer (ap (λ (v : RecordNow). held v.core.live.granted) c.self.view_is) (c.next-next.ensures.word a)
+    c.note_next-framed.ensures.answer (ap (λ (v : RecordNow). held v.core.live.granted) c.self.view_is) c.next-next.ensures.word
 
 pub returns-then-not-is_faulted-clause-top : goal.returns-then-not-is_faulted-clause-top
 returns-then-not-is_faulted-clause-top g c = top-so _ c.self.inside.core c.next-next.new.self c.next-next.result.next c.next-next.ensures.next ∙ ap (λ (v : RecordNow). v.core.top) c.self.view_is

@@ -9,7 +9,7 @@ pub returns-in-Ok-clause-steps : goal.returns-in-Ok-clause-steps
 returns-in-Ok-clause-steps g c = step-at c.take_due.result _ c.args.self.now c.reserve.new.self c.take_due.new.self refl c.reserve.ensures.only c.take_due.ensures.due c.take_due.ensures.memory
 
 pub returns-in-Err-clause-steps : goal.returns-in-Err-clause-steps
-returns-in-Err-clause-steps g c = record { nothing = same-nothing c.args.self.now c.reserve.new.self c.reserve.ensures.only; bytes = λ alone. refl; numbers = refl }
+returns-in-Err-clause-steps g c = record { nothing = same-nothing c.args.self.now c.reserve.new.self c.reserve.ensures.only; bytes = λ gate alone. refl; numbers = refl }
 
 pub returns-in-Ok-clause-handed : goal.returns-in-Ok-clause-handed
 returns-in-Ok-clause-handed g c = handed_owned _ _ c.args.self.now c.reserve.new.self c.take_due.new.self c.reserve.ensures.only c.requires.owned c.take_due.ensures.due

@@ -1,3 +1,4 @@
+use Rattle.m2_shared.specs.Gates.{places}
 use Rattle.std.proofs.Common.{◌≤◌, ◌∙◌, ap, arith, refl, subst, sym}
 use Rattle.m2_record.specs.declared.due.Due.TheVariants as due
 use Rattle.m2_shared.specs.Numbers.{SeenNumberPass}
@@ -20,13 +21,13 @@ pub returns-in-Plan-clause-due : goal.returns-in-Plan-clause-due
 returns-in-Plan-clause-due g c = by-due due.Plan (record {
   now = c.args.now;
   answer = c.answer_planned.result;
-  bytes = record { throttle = c.args.throttle.now; before = c.args.take_pass.now; behind = c.step_plan.new.pass };
+  bytes = record { throttles = c.args.throttles.now; before = c.args.passes.now; behind = c.step_plan.new.passes };
   numbers = record { place = c.args.numbers.now.place; before = c.args.number_pass.now; behind = c.args.number_pass.now };
 }) c.args.self.now c.step_plan.new.self (sym c.due.ensures ∙ c.in-Plan.is)
     (record { taken = c.step_plan.result; plans = c.step_plan.ensures.plans; answers = c.answer_planned.ensures; bytes = c.step_plan.ensures.word; numbers = refl })
 
 pub returns-in-Frame-clause-top : goal.returns-in-Frame-clause-top
-returns-in-Frame-clause-top g c = top-below c.args.self.now c.frame.new.self _ _ (framed-top (record { throttle = c.args.throttle.now; before = c.args.take_pass.now; behind = c.frame.new.pass }) c.frame.result c.args.now c.args.self.now c.frame.new.self c.frame.ensures.frames) c.requires.top (omega arith)
+returns-in-Frame-clause-top g c = top-below c.args.self.now c.frame.new.self _ _ (framed-top (record { throttles = c.args.throttles.now; before = c.args.passes.now; behind = c.frame.new.passes }) c.frame.result c.args.now c.args.self.now c.frame.new.self c.frame.ensures.frames) c.requires.top (omega arith)
 
 pub returns-in-Read-clause-top : goal.returns-in-Read-clause-top
 returns-in-Read-clause-top g c = top-below c.args.self.now c.read.new.self _ _ (read-top c.read.result c.args.now c.args.self.now c.read.new.self c.read.ensures.reads) c.requires.top
@@ -40,5 +41,5 @@ returns-in-Compose-clause-top g c = composed-top c.args.self.now c.compose.new.s
     (due-holds c.args.now c.args.self.now due.Compose (sym c.due.ensures ∙ c.in-Compose.is)) c.compose.ensures.composes c.compose.ensures.pass c.requires.top c.top_fits.ensures
 
 pub returns-in-Compose-clause-owned : goal.returns-in-Compose-clause-owned
-returns-in-Compose-clause-owned g c = composed-owned c.args.self.now c.compose.new.self c.args.throttle.now.place c.compose.result
+returns-in-Compose-clause-owned g c = composed-owned c.args.self.now c.compose.new.self (places c.args.throttles.now) c.compose.result
     (due-holds c.args.now c.args.self.now due.Compose (sym c.due.ensures ∙ c.in-Compose.is)) c.compose.ensures.composes c.requires.owned

@@ -1,3 +1,4 @@
+use Rattle.m2_shared.specs.Gates.{places}
 use Rattle.std.proofs.Common.{◌++◌, ◌∷◌, [], ◌-◌, ◌≤◌, ◌∙◌, ap, map, option_map, subst, sym}
 use Rattle.std.proofs.lemmas.List.{map-append}
 use Rattle.m2_bytes.specs.Items.{Holding}
@@ -43,8 +44,8 @@ returns-clause-entries g c = entry-left (option_map g.E.End.seen c.take_over-aft
     (subst (λ (v : RecordNow). HasRoomFor 3 v.room) (sym c.self.view_is) c.requires.room).entries (ap (λ (l : Holding Entry). l.room) c.push_reserved.ensures) c.put_closed.ensures.entries
 
 pub returns-clause-owned : goal.returns-clause-owned
-returns-clause-owned g c = owned-taken c.args.throttle.now.place c.args.v.now (g.E.End.seen c.args.half.end) c.args.half.decoder.rest _ _ c.take_over-aftermath.result.discarded c.take_over-aftermath.result.remote_reset
-    (subst (λ (v : RecordNow). Owns c.args.throttle.now.place v) (sym c.self.view_is) c.requires.owned) c.take_over-aftermath.ensures.value c.take_over-aftermath.ensures.feed c.put_told.ensures.items
+returns-clause-owned g c = owned-taken (places c.args.throttles.now) c.args.v.now (g.E.End.seen c.args.half.end) c.args.half.decoder.rest _ _ c.take_over-aftermath.result.discarded c.take_over-aftermath.result.remote_reset
+    (subst (λ (v : RecordNow). Owns (places c.args.throttles.now) v) (sym c.self.view_is) c.requires.owned) c.take_over-aftermath.ensures.value c.take_over-aftermath.ensures.feed c.put_told.ensures.items
 
 pub returns-clause-takes : goal.returns-clause-takes
 returns-clause-takes g c =

@@ -6,7 +6,7 @@ use Rattle.m2_record_trace.proofs.side.Side.step.Goals as goal
 
 pub returns-then-is_err : goal.returns-then-is_err
 returns-then-is_err c =
-    let bytes : Throttled = record { throttle = c.self.inside.throttle; before = c.self.inside.take_pass; behind = c.self.inside.take_pass } in
+    let bytes : Throttled = record { throttles = c.self.inside.throttles; before = c.self.inside.passes; behind = c.self.inside.passes } in
     let numbers : Counted = record { place = c.self.inside.numbers.place; before = c.self.inside.number_pass; behind = c.self.inside.number_pass } in
     rw (← c.self.view_is) (no_step c.args.now bytes numbers _ _ refl refl refl (rw (c.room_to_log.ensures.log, c.room_to_log.ensures.fast) refl))
 
@@ -16,7 +16,7 @@ returns c = rw (← c.self.view_is) (record {
   worked = record {
     now = c.args.now;
     answer = c.step_record-stepped.result;
-    bytes = record { throttle = c.self.inside.throttle; before = c.self.inside.take_pass; behind = c.step_record-stepped.new.take_pass };
+    bytes = record { throttles = c.self.inside.throttles; before = c.self.inside.passes; behind = c.step_record-stepped.new.passes };
     numbers = record { place = c.self.inside.numbers.place; before = c.self.inside.number_pass; behind = c.step_record-stepped.new.number_pass };
   };
   moment = refl;

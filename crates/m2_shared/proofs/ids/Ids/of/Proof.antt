@@ -1,4 +1,4 @@
--- `of` makes the empty struct, with the place that its clause names.
+-- `of` makes the empty struct, with the throttles that its clause names.
 use Rattle.std.proofs.Common.{List, [], ◌∷◌, ◌++◌, refl}
 use seplogic.Ra.Ura.{Ura}
 use mir.Syntax.{Fn}
@@ -27,7 +27,7 @@ use denote.Triple.Spec.{Meets, triple_of}
 use denote.Triple.Table.{entered}
 use denote.Triple.Walked.{says, Stays, stay_dropped, walk_of, ends_at, walk_Meets, Goes-dropped}
 use Rattle.m2_shared.specs.contracts.ids.Ids as Ids
-use Rattle.m2_shared.specs.contracts.throttle.Throttle as Throttle
+use Rattle.m2_shared.specs.contracts.throttles.Throttles as Throttles
 use Rattle.m2_shared.specs.contracts.ids.Ids.of as F
 use Rattle.m2_shared.specs.contracts.ids.Ids.of.Key.{name as #self}
 use Rattle.m2_shared.proofs.ids.Ids.of.Statement as stated
@@ -60,7 +60,7 @@ module _ {M : Type 1} {𝓤 : Ura M} (𝓛 : Logic 𝓤) (at_mem : Memory → SP
         let a = z.0.3 in
         let vss = z.0.4 in
         let u : Val = vptr a.0.ref_ptr.0 a.0.ref_ptr.1 in
-        let made : (Ids.the_row).Denot = record { place = a.0.now.place } in
+        let made : (Ids.the_row).Denot = record { of = a.0.now } in
         qed 𝓛 ((raw toks ⊛ ‵ (owns (types_at ended.signature.params z.0.0) a vss)) ∷ raw ((held z.0.0 a).requires z.1) ∷ []) ∵
         keep ! (0 ∷ []) $ split ! $ move ! (1 ∷ []) $ fsplit ! $ fsplit ! $ feq_l ! (λ is₀. drop ! $
         drop ! $
@@ -74,7 +74,7 @@ module _ {M : Type 1} {𝓤 : Ura M} (𝓛 : Logic 𝓤) (at_mem : Memory → SP
 
   meets : (𝓣 : Tables 𝓤 H) → Meets 𝓛 ended.signature (WpFn 𝓤 H 𝓣.C 𝓣.Λ function) (closing 𝓛 ended held)
   meets 𝓣 =
-      walk_Meets 𝓛 ended stayed (Goes-dropped 𝓛 1 (RefOf (0 ∷ []) tt (plain (λ _. Throttle.the_row)) (λ _. tt)) yes (λ κs x f. refl), tt) held
+      walk_Meets 𝓛 ended stayed (Goes-dropped 𝓛 1 (RefOf (0 ∷ []) tt (plain (λ _. Throttles.the_row)) (λ _. tt)) yes (λ κs x f. refl), tt) held
       (WpFn 𝓤 H 𝓣.C 𝓣.Λ function) (WpFn-mono 𝓤 H 𝓛.laws 𝓣 function) (walks 𝓣.C 𝓣.Λ)
 
 pub of_spec : {M : Type 1} → stated.statement M
