@@ -1,5 +1,5 @@
 -- The parts of a center's turn, by what each changes of it.
-use Rattle.std.proofs.Common.{◌≡◌, ℕ, ◌-◌, List, Some, OnOk, refl, ap, subst, sym, ◌∙◌}
+use Rattle.std.proofs.Common.{◌≡◌, ℕ, List, Some, OnOk, refl, ap, subst, sym, ◌∙◌}
 use Rattle.std.specs.Prelude.{slice_get, slice_set}
 use Rattle.m2_dispatch.specs.Heard.{Heard}
 use Rattle.m2_dispatch.specs.Dispatch.{Queued}

@@ -1,5 +1,5 @@
 -- What a center's records are to do, and what it lends of one of them. This project's own.
-use Rattle.std.specs.Prelude.{◌≡◌, ℕ, ◌-◌, ◌==◌, Bool, List, slice_get, slice_set, Option, Some, None, OnOk}
+use Rattle.std.specs.Prelude.{◌≡◌, ℕ, ◌==◌, Bool, List, slice_get, slice_set, Option, Some, None, OnOk}
 use Rattle.std.specs.List.{find, position}
 use Rattle.m2_journal.specs.declared.entry.Entry.{Entry}
 use Rattle.m2_journal.specs.declared.facts.NodeFacts.{NodeFacts}

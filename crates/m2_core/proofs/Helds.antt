@@ -1,5 +1,5 @@
 -- What is held for the feed behind an answer, and the words of throttles that are alone.
-use Rattle.std.proofs.Common.{◌≡◌, ℕ, ◌+◌, Bool, true, false, ◌&&◌, ◌||◌, not, Option, Some, None, refl, sym, ap, subst, ◌∙◌}
+use Rattle.std.proofs.Common.{◌≡◌, ℕ, Bool, true, false, ◌&&◌, ◌||◌, not, Option, Some, None, refl, sym, ap, subst, ◌∙◌}
 use Rattle.m2_feed.specs.Calls.{IsBad, Owes}
 use Rattle.m2_feed.specs.FeedNow.{FeedNow}
 use Rattle.m2_frame.specs.declared.fault.FrameFault.{FrameFault}

@@ -1,5 +1,5 @@
 -- What is granted for a MESSAGE of a size, and that nothing is.
-use Rattle.std.proofs.Common.{◌≡◌, ℕ, true, false, Option, Some, None, refl, sym, ap, subst, ◌∙◌}
+use Rattle.std.proofs.Common.{◌≡◌, ℕ, false, Option, Some, None, refl, sym, ap, subst, ◌∙◌}
 use Rattle.m2_bytes.proofs.m2_lemmas.Numbers.{zero_if}
 use Rattle.m2_shared.specs.Gates.{AreHeld, Gate, Places, held, is_type, is_whole, messages, bytes, dispatch, gate_of, nothing_held}
 use Rattle.m2_shared.specs.Stages.{amount, grant_at, nothing_granted}

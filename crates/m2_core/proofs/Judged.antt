@@ -44,7 +44,7 @@ use Rattle.m2_session.proofs.Answers.{answers_are_lawful_lem}
 use Rattle.m2_session.proofs.Rows.{each_answer}
 use Rattle.m2_shared.specs.declared.peer_grants.PeerGrants.{PeerGrants}
 use Rattle.m2_core.specs.LiveNow.{HoldsNothing, LiveNow, asked_in}
-use Rattle.m2_shared.specs.Gates.{Return, Stay, held, places, words}
+use Rattle.m2_shared.specs.Gates.{Return, Stay, held, words}
 use Rattle.m2_shared.specs.declared.throttles.TakePasses.{TakePasses}
 use Rattle.m2_shared.specs.declared.throttles.Throttles.{Throttles}
 use Rattle.m2_core.proofs.Holding.{none_at, nothing_for}

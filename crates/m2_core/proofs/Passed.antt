@@ -1,5 +1,5 @@
 -- A text that is passed without an entry: the replay passes it over.
-use Rattle.std.proofs.Common.{◌≡◌, ℕ, true, false, ◌&&◌, Option, Some, None, Result, Ok, Err, refl, sym, ap, subst, ◌∙◌}
+use Rattle.std.proofs.Common.{◌≡◌, ℕ, true, false, Option, Some, None, Result, Ok, Err, refl, sym, ap, subst, ◌∙◌}
 use Rattle.std.proofs.lemmas.Bool.{true≢false}
 use Rattle.m2_bytes.specs.declared.memory.NoMemory as memory
 use Rattle.m2_control.specs.declared.keepalive.Keepalive.{Keepalive}

@@ -7,7 +7,7 @@ use Rattle.std.proofs.lemmas.List.Elements.{filter_map-append}
 use Rattle.std.proofs.lemmas.List.Folds.{list_any-append}
 use Rattle.m2_frame.specs.Reading.{Item}
 use Rattle.m2_handshake.specs.Course as hand
-use Rattle.m2_handshake.specs.Course.{Course, course_of}
+use Rattle.m2_handshake.specs.Course.{course_of}
 use Rattle.m2_handshake.specs.Moves.{is_authed}
 use Rattle.m2_handshake.specs.Standing.{Standing, fed}
 use Rattle.m2_journal.specs.Feeds.{greets, hears, hears_at, signs, split_into, told, told_by}

@@ -15,7 +15,7 @@ use Rattle.m2_journal.specs.OutFrames.{OutFrame, is_unnamed}
 use Rattle.m2_journal.specs.SideFacts.{SideFacts}
 use Rattle.m2_journal.specs.State.{Feed, PartText, State}
 use Rattle.m2_journal.specs.Steps as replay
-use Rattle.m2_journal.specs.Steps.{after, puts, puts_on, puts_whole, sends_late}
+use Rattle.m2_journal.specs.Steps.{after, puts, puts_on}
 use Rattle.m2_shared.specs.declared.peer_grants.PeerGrants.{PeerGrants}
 use Rattle.m2_core.specs.LiveNow.{LiveNow}
 use Rattle.m2_core.specs.OnFeed.{WritesFeed}

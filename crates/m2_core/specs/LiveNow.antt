@@ -1,6 +1,6 @@
 -- What a step of a session can change: the session, the outgoing queue, the last accepted number, the name of the life, and
 -- the feed with what was granted for it. This project's own.
-use Rattle.std.specs.Prelude.{◌≡◌, ℕ, Bool, true, false, Option, Some, None}
+use Rattle.std.specs.Prelude.{◌≡◌, ℕ, Bool, false, Option, Some, None}
 use Rattle.m2_feed.specs.FeedNow.{FeedNow, Reading, framing, shaking}
 use Rattle.m2_frame.specs.Reading.{size_of}
 use Rattle.m2_queues.specs.OutQueues.{Outgoing, waits}

@@ -33,7 +33,7 @@ use Rattle.m2_script.specs.m2_center.m2_feed.m2_session.declared.session.Session
 use Rattle.m2_script.specs.m2_center.m2_turn.m2_handshake.declared.answer.HalfStep.{HalfStep}
 use Rattle.m2_script.specs.m2_center.m2_turn.m2_handshake.declared.answer.HalfStep.TheVariants as half
 use Rattle.m2_script.specs.m2_center.m2_turn.m2_handshake.m2_frame.Reading.{Front, bad, size_of, start, text}
-use Rattle.m2_exact.specs.Holding.{IsHeldRightly, MayHold}
+use Rattle.m2_exact.specs.Holding.{IsHeldRightly}
 
 -- ---- words
 

@@ -1,14 +1,14 @@
 -- Sockets of a door, however they are weighed.
-use Rattle.std.proofs.Common.{◌≡◌, ℕ, zero, suc, ◌+◌, List, [], ◌∷◌, ◌++◌, map, slice_get, slice_set, sum_by, Option, Some, None, refl, sym, ap, ◌∙◌, arith}
+use Rattle.std.proofs.Common.{◌≡◌, ℕ, zero, suc, ◌+◌, List, [], ◌∷◌, ◌++◌, map, slice_get, slice_set, sum_by, Some, None, refl, sym, ap, ◌∙◌, arith}
 use Rattle.std.proofs.lemmas.List.Sums.{sum_by-append, sum_by-cons, sum_by_push}
 use Rattle.m2_fabric.specs.declared.socket.SocketId.{SocketId}
 use Rattle.m2_mailbox.specs.Views.{put_by}
-use Rattle.m2_trail.specs.Arrivals.{LooseNow, closed_of, left_of}
+use Rattle.m2_trail.specs.Arrivals.{LooseNow, closed_of}
 use Rattle.m2_trail.specs.Incoming.{IncomingNow}
 use Rattle.m2_trail.specs.declared.turn.HalfTurn.{HalfTurn}
 use Rattle.m2_trail.specs.declared.turn.HalfTurn.TheVariants as half
 use Rattle.m2_handover.specs.Door.{DoorNow, GoesBy, Hands, KeepsAll, Stands, TakesIn, asked_by, over_by, stays_by, weight_of, weight_of_half, weight_by, weight_on_way, weight_put, weight_through}
-use Rattle.m2_handover.specs.Handed.{AreAskedAs, ComeAsked, IsAskedAs, OnItsWay, left_behind}
+use Rattle.m2_handover.specs.Handed.{AreAskedAs, ComeAsked, OnItsWay, left_behind}
 use Rattle.m2_handover.specs.Way.{WayNow, with_put}
 
 -- ---- lists

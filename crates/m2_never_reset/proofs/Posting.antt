@@ -1,5 +1,5 @@
 -- Through a history of two lossless sides all that was posted stays in their queues' histories, and no full reset is obeyed.
-use Rattle.std.proofs.Common.{◌≡◌, ℕ, ◌+◌, not, true, false, List, [], ◌∷◌, ◌++◌, length, Option, Some, None, sym, subst, arith}
+use Rattle.std.proofs.Common.{◌≡◌, ℕ, ◌+◌, not, true, false, List, [], ◌∷◌, length, Option, Some, None, sym, subst, arith}
 use Rattle.std.specs.List.{AllByRecursion}
 use Rattle.m2_queues.specs.QueueLaws.{EachPriorityKeepsItsOrder}
 use Rattle.m2_session.specs.declared.event.Event.TheVariants as event

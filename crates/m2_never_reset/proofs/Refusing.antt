@@ -17,7 +17,7 @@ use Rattle.m2_never_reset.specs.Asks.{Ask, Refusal, reset, Asks, AtMost}
 use Rattle.m2_never_reset.specs.Link.{Stand, refused, Node, apart, Link, link}
 use Rattle.m2_never_reset.specs.Roles.{Role}
 use Rattle.m2_never_reset.specs.Steps as step
-use Rattle.m2_never_reset.specs.Steps.{Run, near_acts, done, HasLeft, IsDrawn, MayRefuse}
+use Rattle.m2_never_reset.specs.Steps.{Run, near_acts, HasLeft, IsDrawn, MayRefuse}
 use Rattle.m2_never_reset.specs.Frames.{ask_of, is_ask}
 use Rattle.m2_never_reset.specs.LinkOf.{asks_left, joined_by, stand_asking, stand_off, stand_on, stand_by, stand_of, node_of, link_of}
 use Rattle.m2_never_reset.proofs.Judging.{HearsIt, HasLeftIt, fewer_judged}

@@ -1,5 +1,5 @@
 -- Sockets by their names, and lists of them.
-use Rattle.std.proofs.Common.{◌≡◌, Bool, true, false, ◌&&◌, ◌⊎◌, inl, inr, ◌==◌, List, [], ◌∷◌, ◌++◌, map, refl, sym, ◌∙◌, subst}
+use Rattle.std.proofs.Common.{◌≡◌, Bool, true, false, ◌⊎◌, inl, inr, List, [], ◌∷◌, map, refl, sym, subst}
 use Rattle.std.proofs.lemmas.Bool.{or_cases, or_right, or_left}
 use Rattle.std.specs.List.{AllByRecursion}
 use Rattle.m2_journal.specs.m2_fabric.declared.socket.SocketId.{SocketId}

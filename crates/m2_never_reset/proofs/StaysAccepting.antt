@@ -1,5 +1,5 @@
 -- What the two sides have in common stays where a message is accepted.
-use Rattle.std.proofs.Common.{◌≡◌, ℕ, ◌+◌, inl, true, ◌∷◌, drop, Option, Some, None, refl, sym, ap, ◌∙◌, subst, arith}
+use Rattle.std.proofs.Common.{◌≡◌, ℕ, ◌+◌, inl, true, drop, Option, Some, None, refl, sym, ap, ◌∙◌, subst, arith}
 use Rattle.std.specs.List.{AllByRecursion, prefix_len}
 use Rattle.m2_journal.specs.m2_fabric.Sockets.{same_socket}
 use Rattle.m2_queues.specs.m2_message.Message.{Content}

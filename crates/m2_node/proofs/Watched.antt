@@ -16,10 +16,10 @@ use Rattle.m2_links_go_on.specs.ClusterTold.{OneByOne}
 use Rattle.m2_mailbox.specs.Passes.{IsPutPassOf, WasFull, parts_of, puts_of}
 use Rattle.m2_mailbox.specs.declared.passes.PutPass.{PutPass}
 use Rattle.m2_script.specs.m2_center.m2_turn.HandingOn.{HandsOn}
-use Rattle.m2_node.specs.Dispatching.{IsServing, LooksIntoAll, Mail, Serves, ServesOnce, ServingNow, StopsServing}
+use Rattle.m2_node.specs.Dispatching.{IsServing, LooksIntoAll, Mail, Serves, ServesOnce, ServingNow}
 use Rattle.m2_node.specs.Handing.{HasFilled, IsSending, RunsSender, SenderNow, SendsOnce, worker_of}
 use Rattle.m2_node.specs.Lists.{SideBySide}
-use Rattle.m2_node.specs.Watching.{RunsSo, Steps, UntilStop, WatchNow, told}
+use Rattle.m2_node.specs.Watching.{RunsSo, Steps, WatchNow, told}
 use Rattle.m2_node.specs.Way.{PollsSo, StepsSo}
 use Rattle.m2_node.specs.WayLaws.{PollsGoOn, StepsGoOn}
 use Rattle.m2_node.specs.Working.{AllWork, Runs, Stops, TurnsOnce, WaitsOnce, WorkerNow, Works}

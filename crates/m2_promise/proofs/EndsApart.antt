@@ -1,6 +1,6 @@
 -- At no node of a run that is kept two ends are of one socket.
-use Rattle.std.proofs.Common.{List, [], ◌∷◌, ◌++◌, length, map, Ok, subst}
-use Rattle.std.specs.List.{AllByRecursion, IsDistinct}
+use Rattle.std.proofs.Common.{List, [], ◌∷◌, ◌++◌, length, subst}
+use Rattle.std.specs.List.{IsDistinct}
 use Rattle.m2_dispatch.specs.Heard.{Heard, heard_by}
 use Rattle.m2_dispatch.specs.declared.logged.Logged.{Logged}
 use Rattle.m2_fabric.proofs.m2_lemmas.Lists.{all_so}

@@ -11,7 +11,6 @@ use Rattle.m2_core.specs.Agrees.{Stays}
 use Rattle.m2_core.specs.CoreNow.{CoreNow}
 use Rattle.m2_core.specs.Front.{FrontHeard, asks, before_front, front_in, front_of, heard_by, hearer_of, rests, resumption_at, tells}
 use Rattle.m2_core.specs.Granting.{HasAsked, Throttled}
-use Rattle.m2_shared.specs.declared.more.More.{More}
 use Rattle.m2_shared.specs.declared.more.More.TheVariants as more
 use Rattle.m2_shared.specs.declared.stage.Stage.{Stage}
 use Rattle.m2_core.specs.Next.{Closes, Counts, IsNext, IsResetHeard}

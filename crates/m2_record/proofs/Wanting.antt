@@ -9,14 +9,13 @@ use Rattle.m2_fabric.specs.declared.end.EndRead.TheVariants as read
 use Rattle.m2_feed.specs.declared.answers.FeedWrite.{FeedWrite}
 use Rattle.m2_feed.specs.declared.answers.FeedWrite.TheVariants as put
 use Rattle.m2_feed.specs.declared.heard.Heard.{Heard}
-use Rattle.m2_feed.specs.declared.wire_fault.WireFault.{WireFault}
 use Rattle.m2_handshake.specs.declared.answer.HalfStep.{HalfStep}
 use Rattle.m2_handshake.specs.declared.answer.HalfStep.TheVariants as half
 use Rattle.m2_journal.specs.declared.facts.PlanStep.{PlanStep}
 use Rattle.m2_journal.specs.declared.facts.PlanStep.TheVariants as step
 use Rattle.m2_shared.specs.Numbers.{SeenNumberPass}
 use Rattle.m2_shared.specs.Place.{Place}
-use Rattle.m2_shared.specs.Gates.{Gate, Stay, words}
+use Rattle.m2_shared.specs.Gates.{Gate, words}
 use Rattle.m2_shared.specs.declared.throttles.TakePasses.{TakePasses}
 use Rattle.m2_record.specs.declared.composing.Composed.{Composed}
 use Rattle.m2_record.specs.declared.composing.Composed.TheVariants as composed
@@ -30,9 +29,9 @@ use Rattle.m2_record.specs.declared.stepped.Stepped.TheVariants as stepped
 use Rattle.m2_record.specs.Calls.{DrawsAs, IsSameButRoom, fault_put, returned_for}
 use Rattle.m2_record.specs.Due.{due_step, next_step}
 use Rattle.m2_record.specs.Framing.{WordsFramed}
-use Rattle.m2_record.specs.Reading.{Reads, answer_read, fault_by, fault_read}
+use Rattle.m2_record.specs.Reading.{fault_by, fault_read}
 use Rattle.m2_record.specs.RecordNow.{RecordNow}
-use Rattle.m2_record.specs.Stepping.{DrawsNothing, GivesBack, IfMemory, KeepsWords, NothingDone, PlansAs, StepsAs, StepsBy, TakesDue, Worked, answer_composed, answer_framed, answer_planned, answer_put, returned_planned}
+use Rattle.m2_record.specs.Stepping.{DrawsNothing, GivesBack, IfMemory, KeepsWords, NothingDone, PlansAs, StepsAs, StepsBy, TakesDue, Worked, answer_framed, answer_planned, answer_put, returned_planned}
 use Rattle.m2_record.proofs.DueSteps.{memory-composed, memory-read, nothing-behind, unheard}
 use Rattle.m2_bytes.proofs.m2_lemmas.Booleans.{false_isnt_true}
 

@@ -1,6 +1,6 @@
 -- What the step Frame leaves of a record: one answer of the opener's half, or what stands at the front of the feed. This
 -- project's own.
-use Rattle.std.specs.Prelude.{◌≡◌, ℕ, ◌+◌, ◌-◌, Bool, true, false, List, [], ◌∷◌, ◌++◌, Option, Some, None}
+use Rattle.std.specs.Prelude.{◌≡◌, ℕ, ◌+◌, Bool, true, false, List, [], ◌∷◌, ◌++◌, Option, Some, None}
 use Rattle.m2_core.specs.LiveNow.{OnFeedNow}
 use Rattle.m2_core.specs.declared.accepting.CoreAccepted.{CoreAccepted}
 use Rattle.m2_core.specs.declared.next.CoreNext.{CoreNext}

@@ -1,6 +1,6 @@
 -- One step of a record: the first that is due, what it leaves, and what it answers. Which step is due is a table, and this is
 -- its other half: for each of its rows what the step does. This project's own.
-use Rattle.std.specs.Prelude.{◌≡◌, ℕ, ◌-◌, ◌≤◌, false, Option, Some, None, Result, Ok, Err, IfSome}
+use Rattle.std.specs.Prelude.{◌≡◌, ℕ, ◌≤◌, false, Option, Some, None, Result, Ok, Err, IfSome}
 use Rattle.m2_bytes.specs.declared.memory.NoMemory as memory
 use Rattle.m2_core.specs.LiveNow as live
 use Rattle.m2_core.specs.LiveHearing.{raised_by}

@@ -1,5 +1,5 @@
 -- Sockets that entries name, one entry at a time.
-use Rattle.std.proofs.Common.{◌≡◌, Bool, List, ◌∷◌, Option, Some, None, refl}
+use Rattle.std.proofs.Common.{◌≡◌, List, ◌∷◌, Option, Some, None, refl}
 use Rattle.std.specs.Prelude.{◌||◌}
 use Rattle.std.specs.List.{cons_option}
 use Rattle.m2_fabric.specs.declared.socket.SocketId.{SocketId}

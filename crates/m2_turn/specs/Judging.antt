@@ -1,5 +1,5 @@
 -- How an ask is judged at its home, and replied to. The answers are those of the session's tables; the rest is this project's own.
-use Rattle.std.specs.Prelude.{◌≡◌, ℕ, ◌-◌, false, None, IfSome, IsSome}
+use Rattle.std.specs.Prelude.{◌≡◌, ℕ, false, None, IfSome, IsSome}
 use Rattle.m2_record.specs.m2_core.Asking.{IsDraw}
 use Rattle.m2_record.specs.m2_core.Judging.{verdict_on}
 use Rattle.m2_fabric.specs.Sockets.{IsNewTo}

@@ -1,7 +1,7 @@
 -- What a record does in its turn: steps, one after another, until one says that it waits or has found a fault. A parcel that a
 -- step hands out is put at once. That a record takes at most so many steps is a limit of the runtime; the rest is this
 -- project's own.
-use Rattle.std.specs.Prelude.{◌≡◌, ℕ, ◌<◌, ◌-◌, true, false, List, [], ◌∷◌, length, Option, Some, None}
+use Rattle.std.specs.Prelude.{◌≡◌, ℕ, ◌<◌, true, false, List, [], ◌∷◌, length, Option, Some, None}
 use Rattle.m2_dispatch.specs.Heard.{Heard}
 use Rattle.m2_record.specs.declared.stepped.Stepped.{Stepped}
 use Rattle.m2_record.specs.declared.stepped.Stepped.TheVariants as stepped

@@ -1,6 +1,6 @@
 -- The turn of a center's records, one after another: each makes the connect that is due, and then takes its steps; and a record
 -- that is idle. The order is that of a center's turn; the rest is this project's own.
-use Rattle.std.specs.Prelude.{◌≡◌, ℕ, ◌-◌, ◌&&◌, ◌⊎◌, Bool, true, false, List, [], ◌∷◌, ◌++◌, map, Option, Some, None, Ok, Err}
+use Rattle.std.specs.Prelude.{◌≡◌, ℕ, ◌&&◌, ◌⊎◌, Bool, true, false, List, [], ◌∷◌, ◌++◌, map, Option, Some, None, Ok, Err}
 use Rattle.m2_dispatch.specs.Heard.{Heard}
 use Rattle.m2_fabric.specs.Port.{SeenPort}
 use Rattle.m2_feed.specs.FeedNow.{FeedNow}

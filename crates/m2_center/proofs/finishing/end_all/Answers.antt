@@ -1,6 +1,6 @@
 -- What was granted for the records that are left, and for the last of them.
 use Rattle.m2_shared.specs.Gates.{places}
-use Rattle.std.proofs.Common.{subst, ◌∙◌}
+use Rattle.std.proofs.Common.{subst}
 use Rattle.m2_record.specs.Calls.{Owns}
 use Rattle.m2_center.specs.Finishing.{AllOwn}
 use Rattle.m2_center.proofs.Granted.{before_last}

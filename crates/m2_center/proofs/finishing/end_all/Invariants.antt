@@ -1,5 +1,5 @@
 use Rattle.m2_shared.specs.Gates.{ArePassesOf, places}
-use Rattle.std.proofs.Common.{◌≡◌, length}
+use Rattle.std.proofs.Common.{length}
 use Rattle.m2_center.specs.Finishing.{AllOwn}
 use Rattle.m2_center.proofs.finishing.end_all.Given as goal
 

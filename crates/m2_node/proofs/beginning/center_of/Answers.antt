@@ -1,5 +1,5 @@
 -- It has the records of its node's links whose peers are at home there, which have done nothing.
-use Rattle.std.proofs.Common.{◌≡◌, List, [], Some, ap, sym, subst, ◌∙◌}
+use Rattle.std.proofs.Common.{◌≡◌, List, Some, ap, sym, subst, ◌∙◌}
 use Rattle.std.specs.Prelude.{slice_get}
 use Rattle.std.proofs.lemmas.Option.{slice_get-get_or}
 use Rattle.m2_dispatch.specs.m2_shared.Gates.{pass_places}

@@ -1,4 +1,4 @@
-use Rattle.std.proofs.Common.{◌≡◌, ◌≤◌}
+use Rattle.std.proofs.Common.{◌≡◌}
 use Rattle.m2_mailbox.specs.Passes.{IsPutPassOf, parts_of}
 use Rattle.m2_outside_tests.proofs.inbox.put_all.Given as goal
 

@@ -1,5 +1,5 @@
 use Rattle.m2_shared.specs.Gates.{places}
-use Rattle.std.proofs.Common.{◌∙◌, ap, not, refl, sym}
+use Rattle.std.proofs.Common.{ap, not, refl, sym}
 use Rattle.m2_dispatch.specs.declared.turn.DispatchTurn.TheVariants as turn
 use Rattle.m2_turn.specs.Mailing.{queueing}
 use Rattle.m2_turn.proofs.Emptied.{nothing_dispatched, one_dispatched, some_more}

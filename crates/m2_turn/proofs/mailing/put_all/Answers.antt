@@ -1,5 +1,4 @@
 use Rattle.m2_shared.specs.Gates.{places}
-use Rattle.std.proofs.Common.{◌∙◌}
 use Rattle.m2_turn.specs.Mailing.{mailing}
 use Rattle.m2_turn.proofs.Emptied.{one_put}
 use Rattle.m2_turn.proofs.mailing.put_all.Goals as goal

@@ -1,5 +1,5 @@
 use Rattle.m2_shared.specs.Gates.{ArePassesOf, places}
-use Rattle.std.proofs.Common.{◌≡◌, length}
+use Rattle.std.proofs.Common.{length}
 use Rattle.m2_dispatch.specs.Letters.{AreOwned}
 use Rattle.m2_turn.specs.Mailing.{PutsSome, mailing}
 use Rattle.m2_turn.specs.Outbox.{OwnsAll}

@@ -1,5 +1,5 @@
 use Rattle.m2_shared.specs.Gates.{places}
-use Rattle.std.proofs.Common.{◌++◌, ◌∷◌, [], Some, ap, arith, refl, subst, ◌∙◌}
+use Rattle.std.proofs.Common.{◌++◌, ◌∷◌, [], Some, arith, refl, subst, ◌∙◌}
 use Rattle.m2_record.specs.Calls.{Owns}
 use Rattle.m2_turn.specs.Outbox.{OwnsAll}
 use Rattle.m2_turn.specs.RecordTurn.{LedOn, StepsOnce, means_of, turning}

@@ -1,6 +1,6 @@
 use Rattle.std.proofs.Common.{◌≡◌, subst, arith}
 use Rattle.std.proofs.lemmas.Grind.{common_steps}
-use Rattle.m2_handover.specs.Home.{IsHome, asked_at, asked_at_door, unasked_at}
+use Rattle.m2_handover.specs.Home.{IsHome, asked_at_door, unasked_at}
 use Rattle.m2_handover.proofs.Homes.{all_there}
 use Rattle.m2_handover.proofs.Named.{is_of_named}
 use Rattle.m2_mailbox.specs.Passes.{IsGetPassOf}

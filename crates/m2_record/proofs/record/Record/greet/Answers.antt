@@ -1,5 +1,5 @@
 use Rattle.m2_shared.specs.Gates.{Return, held, places}
-use Rattle.std.proofs.Common.{◌∙◌, ap, arith, subst, sym}
+use Rattle.std.proofs.Common.{◌∙◌, arith, subst, sym}
 use Rattle.m2_handshake.specs.declared.answer.HalfStep.TheVariants as half
 use Rattle.m2_record.specs.Calls.{HasRoomToClose}
 use Rattle.m2_record.proofs.Heeding.{broken-top, shaken-held, shaken-owned, shaken-top}

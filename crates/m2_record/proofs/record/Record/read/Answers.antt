@@ -1,8 +1,7 @@
-use Rattle.std.proofs.Common.{◌≡◌, Option, Some, ap, subst, sym, ◌∙◌}
+use Rattle.std.proofs.Common.{Option, subst, sym, ◌∙◌}
 use Rattle.m2_shared.specs.Gates.{Return, held}
 use Rattle.m2_feed.specs.declared.wire_fault.WireFault.{WireFault}
 use Rattle.m2_record.specs.Calls.{returned_for}
-use Rattle.m2_record.specs.Reading.{fault_read}
 use Rattle.m2_record.proofs.HasGot.{same-held-for}
 use Rattle.m2_record.proofs.record.Record.read.Goals as goal
 
