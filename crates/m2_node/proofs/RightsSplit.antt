@@ -7,6 +7,7 @@ use Rattle.m2_dispatch.specs.m2_shared.declared.peer_type.PeerType.TheVariants.{
 use Rattle.m2_dispatch.specs.m2_shared.declared.throttles.TakePasses.{TakePasses}
 use Rattle.m2_dispatch.specs.m2_shared.declared.throttles.Throttles.{Throttles}
 use Rattle.m2_shared.proofs.Asking.{all_places}
+use Rattle.m2_scenario.specs.declared.node.Node.{Node}
 use Rattle.m2_node.specs.Sharing.{AreFirstOf, AreRights, AreSharesOf, FirstPassesNow, ShareNow}
 use Rattle.m2_node.proofs.Beside.{side_get}
 
@@ -28,9 +29,9 @@ unused_passes t = all_places t (unused_by t) at
     at dispatch = refl
 
 -- of each node the first passes are to what its threads share
-pub first_there : (count : ℕ) (shares : List ShareNow) (passes : List FirstPassesNow) (k : ℕ) (s : ShareNow) (p : FirstPassesNow) → AreSharesOf count shares passes → slice_get shares k ≡ Some s →
+pub first_there : (nodes : List Node) (shares : List ShareNow) (passes : List FirstPassesNow) (k : ℕ) (s : ShareNow) (p : FirstPassesNow) → AreSharesOf nodes shares passes → slice_get shares k ≡ Some s →
     slice_get passes k ≡ Some p → AreFirstOf s p
-first_there count shares passes k s p are here there = side_get AreFirstOf shares passes are.first k s p here there
+first_there nodes shares passes k s p are here there = side_get AreFirstOf shares passes are.first k s p here there
 
 -- one more goes last
 pub one_right : (shares : List ShareNow) (rights : List TakePasses) (k : ℕ) (s : ShareNow) (r : TakePasses) → slice_get shares k ≡ Some s → ArePassesOf s.throttles r → AreRights (take k shares) rights →

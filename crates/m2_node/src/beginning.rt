@@ -176,7 +176,7 @@ where
     requires sound { IsSound nodes.now links.now (map draft_line lines.items) }
     requires listening { AreListening nodes.now (F.seen fabric.old) }
     requires doors { AreDoorsOf (slice_get B.inboxes) (homes_of nodes.now) doors }
-    requires shares { AreSharesOf (length nodes.now) shares.now passes.items }
+    requires shares { AreSharesOf nodes.now shares.now passes.items }
     ensures nodes { IfOk result (λ workers. AreBeginning nodes.now links.now (steps_in lines.items) 0 nodes.now workers.items) }
     ensures workers { IfOk result (λ workers. AreWorkersOf nodes.now shares.now start workers.items) }
     ensures out { IfOk result (λ _. AreOut nodes.now (F.seen fabric.old) (F.seen fabric.new)) }
@@ -386,7 +386,7 @@ fn workers_of<'s, P: Port, W: Words>(
     requires sound { AreOfSound nodes.now links.now }
     requires ports { ArePortsFor nodes.now (map (λ ps. ps.items) ports.items) }
     requires steps { AreSendable steps.items }
-    requires shares { AreSharesOf (length nodes.now) shares.now passes.items }
+    requires shares { AreSharesOf nodes.now shares.now passes.items }
     ensures nodes { IfOk result (λ workers. AreBeginning nodes.now links.now (steps_at steps.items) 0 nodes.now workers.items) }
     ensures workers { IfOk result (λ workers. AreWorkersOf nodes.now shares.now start workers.items) }
 {

@@ -1,9 +1,9 @@
 //! What the event threads of nodes share.
 
-ghost use Rattle.std.specs.Prelude.{◌≡◌, [], ℕ, IfOk, OnOk, length};
+ghost use Rattle.std.specs.Prelude.{◌≡◌, [], IfOk, OnOk};
 ghost use Rattle.m2_dispatch.specs.m2_shared.Gates.{ArePassesOf, AreShared, unused_by};
 ghost use Rattle.m2_dispatch.specs.m2_shared.Place.{IsShared};
-ghost use Rattle.m2_node.specs.Sharing.{AddsShare, AreRights, AreSharesOf};
+ghost use Rattle.m2_node.specs.Sharing.{AddsShare, AreRights, AreShares, AreSharesOf};
 
 use crate::node::{Shares, clear_shares};
 use m2_bytes::NoMemory;
@@ -35,9 +35,10 @@ pub struct Shared {
     pub passes: Vec<FirstPasses>,
 }
 
-/// What the threads of each of these nodes share, of which nothing was granted or drawn.
+/// What the threads of each of these nodes share, of which nothing was granted or drawn: the throttle of its dispatch has its bound, and no
+/// other has one.
 pub fn shared_by(alloc: Global, nodes: &[Node]) -> Result<Shared, NoMemory>
-    ensures { IfOk result (λ of. AreSharesOf (length nodes.now) of.shares.items of.passes.items) }
+    ensures { IfOk result (λ of. AreSharesOf nodes.now of.shares.items of.passes.items) }
 {
     let mut of = Shared {
         shares: Vec::new(alloc),
@@ -55,7 +56,7 @@ pub fn shared_by(alloc: Global, nodes: &[Node]) -> Result<Shared, NoMemory>
 
 /// Those of a node whose dispatch has this bound go last. Its other throttles have none.
 fn add_shares(alloc: Global, most: u64, of: &mut Shared) -> Result<(), NoMemory>
-    ensures { OnOk result (AddsShare of.old.shares.items of.old.passes.items of.new.shares.items of.new.passes.items) }
+    ensures { OnOk result (AddsShare most of.old.shares.items of.old.passes.items of.new.shares.items of.new.passes.items) }
 {
     of.shares.reserve(1)?;
     of.passes.reserve(1)?;
@@ -106,7 +107,7 @@ pub fn rights_of(
     shares: &[Shares],
     passes: &mut Vec<FirstPasses>,
 ) -> Result<Vec<TakePasses>, NoMemory>
-    requires { (count : ℕ) × AreSharesOf count shares.now passes.old.items }
+    requires { AreShares shares.now passes.old.items }
     ensures same { passes.new.items ≡ passes.old.items }
     ensures rights { IfOk result (λ rights. AreRights shares.now rights.items) }
 {

@@ -57,7 +57,7 @@ where
     B: Inboxes<<F::Port as Port>::End>,
     requires sound { IsSound nodes.now links.now (map draft_line lines.items) }
     requires doors { AreDoorsOf (slice_get B.inboxes) (homes_of nodes.now) doors }
-    requires shares { AreSharesOf (length nodes.now) shares.now passes.items }
+    requires shares { AreSharesOf nodes.now shares.now passes.items }
     ensures nodes { IfOk result (λ b. AreNodesOf (C.may_give clock.now) b.start nodes.now links.now lines.items (nodes_of_workers nodes.now shares.now b.workers.items)) }
     ensures given { IfOk result (λ b. C.may_give clock.now b.start) }
     ensures workers { IfOk result (λ b. AreWorkersOf nodes.now shares.now b.start b.workers.items) }

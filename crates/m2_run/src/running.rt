@@ -108,7 +108,7 @@ fn grounds_of<E: End>(alloc: Global, nodes: &[Node], lines: &[Line]) -> Result<G
     requires { length nodes.now ≤ MOST_NODES }
     ensures cuts { IfOk result (λ g. AreCutsOf nodes.now lines.now g.cuts.items) }
     ensures rooms { IfOk result (λ g. AreRoomsOf (homes_of nodes.now) g.rooms.inboxes.items g.rooms.rights.puts.items g.rooms.rights.gets.items) }
-    ensures shared { IfOk result (λ g. AreSharesOf (length nodes.now) g.shared.shares.items g.shared.passes.items) }
+    ensures shared { IfOk result (λ g. AreSharesOf nodes.now g.shared.shares.items g.shared.passes.items) }
 {
     let cuts = cuts_of_all(alloc, nodes, lines)?;
     let rooms = rooms_of(alloc, nodes)?;
@@ -154,7 +154,7 @@ where
     requires cuts { AreCutsOf nodes.now lines.items grounds.cuts.items }
     requires rooms { AreRoomsOf (homes_of nodes.now) grounds.rooms.inboxes.items grounds.rooms.rights.puts.items grounds.rooms.rights.gets.items }
     requires named { N.inboxes ≡ grounds.rooms.inboxes.items }
-    requires shared { AreSharesOf (length nodes.now) grounds.shared.shares.items grounds.shared.passes.items }
+    requires shared { AreSharesOf nodes.now grounds.shared.shares.items grounds.shared.passes.items }
     ensures ok { IfOk result (HasRan (C.may_give clock.now) limit nodes.now links.now lines.items (F.seen fabric.old) (F.seen fabric.new)) }
     ensures err { IfErr result (IsFaultOf (C.may_give clock.now) nodes.now links.now lines.items (F.seen fabric.old) (F.seen fabric.new)) }
     ensures shown { IfOk result (λ o. (r : HasRan (C.may_give clock.now) limit nodes.now links.now lines.items (F.seen fabric.old) (F.seen fabric.new) o) × V.saw (shown_of r.kept r.ends) observer.old observer.new) }
@@ -220,7 +220,7 @@ where
     requires cuts { AreCutsOf nodes.now lines.items cuts.now }
     requires rooms { AreRoomsOf (homes_of nodes.now) rooms.inboxes.items rooms.rights.puts.items rooms.rights.gets.items }
     requires named { N.inboxes ≡ rooms.inboxes.items }
-    requires shares { AreSharesOf (length nodes.now) shares.now passes.items }
+    requires shares { AreSharesOf nodes.now shares.now passes.items }
     ensures ok { IfOk result (HasRan (C.may_give clock.now) limit nodes.now links.now lines.items (F.seen fabric.old) (F.seen fabric.new)) }
     ensures err { IfErr result (IsFaultOf (C.may_give clock.now) nodes.now links.now lines.items (F.seen fabric.old) (F.seen fabric.new)) }
     ensures shown { IfOk result (λ o. (r : HasRan (C.may_give clock.now) limit nodes.now links.now lines.items (F.seen fabric.old) (F.seen fabric.new) o) × V.saw (shown_of r.kept r.ends) observer.old observer.new) }
@@ -311,7 +311,7 @@ where
     requires sound { IsSound nodes.now links.now (map draft_line lines.items) }
     requires cuts { AreCutsOf nodes.now lines.items cuts.now }
     requires doors { AreDoorsOf (slice_get B.inboxes) (homes_of nodes.now) doors }
-    requires shares { AreSharesOf (length nodes.now) shares.now passes.items }
+    requires shares { AreSharesOf nodes.now shares.now passes.items }
     ensures stopped { IfOk result (λ s. (start stop : ℕ) × (ran : List RunNodeNow) × HasStopped (C.may_give clock.now) limit nodes.now links.now lines.items cuts.now start stop ran s.left s.all.items × SideBySide IsLogOf ran s.logs.items) }
     ensures rooms { IfOk result (λ s. HasRoomsFor (slice_get B.inboxes) 0 s.all.items) }
     ensures out { IfOk result (λ _. AreOut nodes.now (F.seen fabric.old) (F.seen fabric.new)) }

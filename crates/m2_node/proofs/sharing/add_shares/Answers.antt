@@ -5,6 +5,7 @@ pub returns : goal.returns
 returns c = record {
   share = record { numbers = c.in_ok-numbers.numbers; throttles = c.in_ok-throttles.throttles };
   pass = record { numbers = c.in_ok-numbers.number_pass; throttles = c.in_ok-throttles.passes };
+  bound = c.in_ok-throttles.ensures.bounds;
   shared = record { numbers = c.in_ok-numbers.ensures.shared; throttles = c.in_ok-throttles.ensures.shared };
   first = record { numbers = c.in_ok-numbers.ensures.pass; throttles = c.in_ok-throttles.ensures.passes };
   shares_are = cc;
