@@ -257,14 +257,11 @@ fn a_fault_and_a_reconnect_are_woven(rt: HostRuntime) -> Result<(), NoMemory> {
         judged_after: &[1],
     };
     let strands = Vec::from_array(alloc, [near, far, first, second])?;
-    let found = woven(
-        alloc,
-        &strands,
-        &[
-            bytes(1, (&[], &[1, 2, 3, 4]), (&[1, 2, 3], &[])),
-            bytes(2, (&[7], &[5, 6]), (&[5, 6], &[7])),
-        ],
-    )?;
+    let sockets = [
+        bytes(1, (&[], &[1, 2, 3, 4]), (&[1, 2, 3], &[])),
+        bytes(2, (&[7], &[5, 6]), (&[5, 6], &[7])),
+    ];
+    let found = woven(alloc, &strands, &sockets)?;
     let whole = match &found {
         Some(w) => w.whole && is(w.at.as_slice(), &[6, 2, 2, 2]),
         None => false,

@@ -73,6 +73,14 @@ fn connects(rt: &impl Abort, side: &mut Record<SimEnd>, port: &mut SimPort, thro
     }
 }
 
+/// How many bytes were written on its socket.
+fn written(side: &Record<SimEnd>) -> usize {
+    match side.feed() {
+        Some(end) => end.log().put.len(),
+        None => 0,
+    }
+}
+
 /// A dial is taken from the plan, then the connect is made at the port, and behind it the banner is written.
 #[test]
 fn a_record_connects_in_its_turn_and_writes_its_banner(rt: HostRuntime) {
@@ -111,12 +119,8 @@ fn a_record_connects_in_its_turn_and_writes_its_banner(rt: HostRuntime) {
         &mut passes,
     );
     assert!(rt; second == RecordTurn::Dry);
-    let put = match side.feed() {
-        Some(end) => end.log().put.len(),
-        None => 0,
-    };
     // "ceph v2", a line feed, a length of two bytes and two words of features
-    assert_eq!(rt; put, 26);
+    assert_eq!(rt; written(&side), 26);
     let _fast = out.clear(&throttles, &mut passes);
     let _ends = side.ends(&throttles, &mut passes);
 }
