@@ -13,5 +13,5 @@ lane beside -18 1 m2_crc m2_message m2_policy m2_queues m2_edge m2_shared m2_dis
   m2_links_go_on m2_promise m2_run_trace run_trace
 lane third -12 1 m2_mailbox m2_never_reset m2_bytes_fit m2_channel m2_lives m2_scenario m2_exact m2_trace m2_record_trace record_trace \
   m2_record_tests m2_history_tests
-lane fourth -8 1 m2_ports m2_mem_fabric m2_mio m2_program m2_listing m2_frame_facts frame_facts m2_scenario_text m2_explain explain \
+lane fourth -8 1 m2_ports m2_mem_fabric m2_mio m2_program m2_listing m2_frame_facts frame_facts m2_scenario_text explain \
   m2_outside_tests m2_protocol_tests

@@ -1,7 +1,9 @@
 //! The program `explain`.
 #![tactic(auto)]
 
-use m2_explain::Explain;
+mod program;
+
+use crate::program::Explain;
 use m2_program::run_program;
 use std::process::ExitCode;
 

@@ -1,3 +1,4 @@
+pub mod Explained
 pub mod FirstWord
 pub mod Flaw
 pub mod Form

@@ -1,12 +1,13 @@
 //! What is said of a file.
 
 ghost use Rattle.std.specs.Prelude.{◌≡◌, ◌++◌, IfOk, OnOk};
-ghost use Rattle.m2_explain.specs.Explained.{IsExplanation, command_of, reading_told};
+ghost use Rattle.m2_scenario_text.specs.Explained.{IsExplanation, command_of, reading_told};
 ghost use Rattle.m2_scenario_text.specs.Reading.{text_read};
 
+use crate::bad_scenario::BadScenario;
+use crate::reading::read;
 use crate::told::put_flaw;
 use m2_bytes::{Blob, NoMemory};
-use m2_scenario_text::{BadScenario, read};
 use std::alloc::Global;
 
 /// What is bad in these bytes: a line for `sim`, and then one for `run`.

@@ -1,10 +1,10 @@
 //! The words for what is bad in a line: where, and what is wanted there.
 
 ghost use Rattle.std.specs.Prelude.{◌≡◌, ◌++◌, OnOk};
-ghost use Rattle.m2_explain.specs.Explained.{flaw_told, line_told, name_of, place_told, range_of, wanted_told};
+ghost use Rattle.m2_scenario_text.specs.Explained.{flaw_told, line_told, name_of, place_told, range_of, wanted_told};
 
+use crate::flaw::{Flaw, Place, Wanted};
 use m2_bytes::{Blob, NoMemory, put_decimal};
-use m2_scenario_text::{Flaw, Place, Wanted};
 
 /// Appends a place, behind a space.
 fn put_place(text: &mut Blob, place: Place) -> Result<(), NoMemory>

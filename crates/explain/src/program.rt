@@ -1,17 +1,16 @@
-//! The program `explain`.
+//! What the program makes of its file.
 
-use crate::explained::explanation;
 use m2_bytes::{Blob, NoMemory};
 use m2_program::{Program, ProgramStatus};
-use m2_scenario_text::MOST_BYTES;
+use m2_scenario_text::{MOST_BYTES, explanation};
 use std::alloc::Global;
 
 /// The program `explain FILE`, which prints what is bad in its file as one of `sim` and as one of `run`.
-pub struct Explain;
+pub(crate) struct Explain;
 
 impl Program for Explain {
     ghost use Rattle.std.specs.Prelude.{◌+◌, codes};
-    ghost use Rattle.m2_explain.specs.Explained.{IsExplanation, IsNeverSaid};
+    ghost use Rattle.m2_scenario_text.specs.Explained.{IsExplanation, IsNeverSaid};
     ghost use Rattle.m2_scenario_text.specs.declared.reading.TheConstants.{MOST_BYTES};
 
     ghost makes = { IsExplanation };
