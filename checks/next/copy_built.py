@@ -23,14 +23,20 @@ def is_of(folder, copy):
     return str(folder) in pathlib.Path(f'/proc/{parent}/cmdline').read_text().split('\0')
 
 
+def sizes(lists):
+    """The same without times."""
+    return [[it[:2] for it in one] for one in lists]
+
+
 def copy(crate, into):
-    """Copies a built crate, unless it changed meanwhile; whether it did."""
+    """Copies a built crate, unless it changed meanwhile or is there; whether it is there then."""
     parts = [it for it in ('out/rlib', 'src', 'specs', 'proofs') if (crate / it).is_dir()]
     seen, room = [files(crate / it) for it in parts], into / f'{crate.name}.new'
+    if sizes(files(into / crate.name / it) for it in parts) == sizes(seen):
+        return True
     shutil.rmtree(room, ignore_errors=True)
     for it in parts:
         shutil.copytree(crate / it, room / it)
-    sizes = lambda lists: [[it[:2] for it in one] for one in lists]
     if [files(crate / it) for it in parts] != seen or sizes(files(room / it) for it in parts) != sizes(seen):
         return False
     shutil.rmtree(into / crate.name, ignore_errors=True)
