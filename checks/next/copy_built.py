@@ -45,16 +45,17 @@ def copy(crate, into):
 
 
 def main(folder, into):
-    copied = {}
+    done = set()
     into.mkdir(parents=True, exist_ok=True)
     while True:
         for built in pathlib.Path('/tmp').glob('rt-copy-*-*/repo/crates/*/out/rlib'):
             crate = built.parent.parent
             try:
-                seen = files(built)
-                quiet = seen and time.time() - max(it[2] for it in seen) > 3
-                if quiet and copied.get(crate.name) != seen and is_of(folder, crate.parent.parent.parent) and copy(crate, into):
-                    copied[crate.name] = seen
+                place = (crate, built.stat().st_ino)
+                if place not in done and is_of(folder, crate.parent.parent.parent):
+                    seen = files(built)
+                    if seen and time.time() - max(it[2] for it in seen) > 3 and copy(crate, into):
+                        done.add(place)
             except OSError:
                 continue  # the call has ended, and its copy is gone
         time.sleep(2)
