@@ -12,8 +12,8 @@ import time
 
 
 def files(top):
-    """What tells the files below a folder from others: names, sizes and times."""
-    return sorted((str(it.relative_to(top)), it.stat().st_size, it.stat().st_mtime) for it in top.rglob('*') if it.is_file())
+    """What tells the files below a folder from others: names, sizes, and when they were put there."""
+    return sorted((str(it.relative_to(top)), it.stat().st_size, it.stat().st_ctime) for it in top.rglob('*') if it.is_file())
 
 
 def is_of(folder, copy):
