@@ -1,7 +1,7 @@
 -- What `clap` makes of words behind a `--`: three at most are put at their positions, and more are refused.
 use Rattle.std.proofs.Common.{inl, inr, ◌≡◌, ◌≤◌, ◌<◌, true, List, [], ◌∷◌, codes, length, slice_get, Some, refl, sym, ◌∙◌, ap, ap₂, subst, arith, drop}
 use Rattle.std.specs.Prelude.{◌≢◌}
-use Rattle.clap.specs.Words.{App, Text, HasKind, IsAmong, Kinds, fault_of, first_of, first_value, found_of, is_simple, is_simple_and_free, kind_of, matches_of}
+use Rattle.clap.specs.Words.{App, Text, HasKind, HasMatchesOf, IsAmong, Kinds, fault_of, first_of, first_value, found_of, is_simple, is_simple_and_free, kind_of, matches_of}
 use Rattle.clap.specs.declared.error.Error.{Error}
 use Rattle.clap.specs.declared.error.kind.ErrorKind.TheVariants as kind
 use Rattle.clap.specs.declared.parser.matches.ArgMatches.{ArgMatches}

@@ -1,5 +1,5 @@
 -- The headline of `run FILE`: of nodes on threads, by whatever schedule, the same is promised as of the run of `sim`.
-use Rattle.std.specs.Prelude.{◌≡◌, ℕ, true, List, map, Ok}
+use Rattle.std.specs.Prelude.{◌≡◌, ℕ, true, List, [], map, Ok}
 use Rattle.std.specs.List.{AllByRecursion}
 use Rattle.m2_scenario.specs.m2_dispatch.declared.logged.Logged.{Logged}
 use Rattle.m2_scenario.specs.m2_dispatch.Heard.{heard_by}

@@ -1,9 +1,9 @@
-use Rattle.std.proofs.Common.{◌≡◌, ◌∙◌, ap, codes, drop, map, sym, subst, List, Option}
+use Rattle.std.proofs.Common.{◌≡◌, ◌∷◌, ◌∙◌, ap, codes, drop, map, sym, subst, List, Option}
 use Rattle.std.proofs.lemmas.Result.{IfOk-weaker}
 use Rattle.clap.specs.Words.{Text, app_of, is_simple_and_free}
 use Rattle.m2_cli.specs.Positions.{three_arguments, Positioned}
 use Rattle.m2_cli.specs.declared.positions.Positions.{Positions}
-use Rattle.m2_cli.proofs.Parses.{first_at, is_free, second_at, value_is, verb_at, words_are_few, words_are_more}
+use Rattle.m2_cli.proofs.Parses.{first_at, front, is_free, second_at, value_is, verb_at, words_are_few, words_are_more}
 use Rattle.m2_cli.proofs.positions.read_positions.Goals as goal
 
 pub returns-in-Ok : goal.returns-in-Ok
